@@ -1,0 +1,14 @@
+//! What every other crate stands on: places in a text, refusals, lists and texts as contracts see
+//! them, and the two edges of the program, a shelf of files and a sink for what is written.
+//!
+//! The layer above may use every public item. Of `specs/` a reader must believe nothing to follow
+//! `Items` and `Str`: an `Items` is the list of its items and a `Str` the list of its characters.
+#![tactic(auto)]
+
+mod items;
+mod place;
+mod text;
+
+pub use items::Items;
+pub use place::{Failed, Fault, NoMemory, Refusal, Span, TextStop};
+pub use text::Str;

@@ -1,0 +1,84 @@
+//! Places in a text, and why a text is refused.
+use std::alloc::{AllocError, AllocFailed};
+
+/// A part of a file, by byte offsets in the whole file: from the first byte to behind the last.
+#[derive(Clone, Copy, Debug, PartialEq, Eq)]
+pub struct Span {
+    pub from: u32,
+    pub to: u32,
+}
+
+/// Memory ran out.
+#[derive(Clone, Copy, Debug, PartialEq, Eq)]
+pub struct NoMemory;
+
+/// A call of a shelf or of a sink failed. Its count of faults has risen.
+#[derive(Clone, Copy, Debug, PartialEq, Eq)]
+pub struct Failed;
+
+/// Why a text is refused, by the number and the name that reports print.
+#[derive(Clone, Copy, Debug, PartialEq, Eq)]
+pub enum Fault {
+    /// 10: the text is not of the first form.
+    NotBuilt,
+}
+
+/// A fault and its place. `count` is 0.
+#[derive(Clone, Copy, Debug, PartialEq, Eq)]
+pub struct Refusal {
+    pub fault: Fault,
+    pub span: Span,
+    pub count: u32,
+}
+
+/// Why a text was not read.
+#[derive(Clone, Copy, Debug, PartialEq, Eq)]
+pub enum TextStop {
+    Refused(Refusal),
+    NoMemory,
+}
+
+impl From<AllocError> for NoMemory {
+    fn from(_error: AllocError) -> NoMemory {
+        NoMemory
+    }
+}
+
+impl<T: Drop> From<AllocFailed<T>> for NoMemory {
+    fn from(_error: AllocFailed<T>) -> NoMemory {
+        NoMemory
+    }
+}
+
+impl From<AllocError> for TextStop {
+    ghost use Rattle.std.specs.Prelude.{◌≡◌};
+    ghost use Rattle.lint_base.specs.declared.place.TextStop.TheVariants as stop;
+
+    ghost from_gives = { λ _ e. e ≡ stop.NoMemory };
+
+    fn from(_error: AllocError) -> TextStop {
+        TextStop::NoMemory
+    }
+}
+
+impl From<NoMemory> for TextStop {
+    ghost use Rattle.std.specs.Prelude.{◌≡◌};
+    ghost use Rattle.lint_base.specs.declared.place.TextStop.TheVariants as stop;
+
+    ghost from_gives = { λ _ e. e ≡ stop.NoMemory };
+
+    fn from(_error: NoMemory) -> TextStop {
+        TextStop::NoMemory
+    }
+}
+
+impl<T: Drop> From<AllocFailed<T>> for TextStop {
+    ghost use Rattle.std.specs.Prelude.{◌≡◌};
+    ghost use Rattle.lint_base.specs.declared.place.TextStop.TheVariants as stop;
+
+    ghost from_gives = { λ _ e. e ≡ stop.NoMemory };
+
+    fn from(_error: AllocFailed<T>) -> TextStop {
+        TextStop::NoMemory
+    }
+}
