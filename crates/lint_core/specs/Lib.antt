@@ -1,0 +1,14 @@
+pub mod Schema
+pub mod Domain
+pub mod Database
+pub mod Meets
+pub mod Truth
+pub mod Comparison
+pub mod Condition
+pub mod Question
+pub mod Formula
+pub mod Translation
+pub mod Certificate
+pub mod Answer
+pub mod Fits
+pub mod FirstForm

@@ -1,0 +1,123 @@
+//! Schemas: tables, their columns and the columns' domains.
+ghost use Rattle.std.specs.Prelude.{◌≡◌, true, false, IfSome, OnSome, IfNone, IsNone, ◌↔◌};
+ghost use Rattle.std.specs.List.{list_all};
+ghost use Rattle.lint_core.specs.Schema.{is_domain, is_table, is_schema};
+
+use lint_base::{Items, Str};
+use std::marker::Model;
+
+/// What a number counts in.
+#[derive(Clone, Copy, Debug, PartialEq, Eq)]
+pub enum Unit {
+    /// Whole numbers.
+    Whole,
+}
+
+/// The values that a column may hold beside NULL.
+#[derive(Clone, Copy, Debug, PartialEq, Eq)]
+pub enum Domain {
+    /// The whole numbers from `least` to `greatest`: SMALLINT, INTEGER or BIGINT.
+    Number {
+        least: i64,
+        greatest: i64,
+        unit: Unit,
+    },
+}
+
+/// A column, by its name and its domain.
+#[derive(Drop)]
+pub struct Column {
+    pub name: Str,
+    pub domain: Domain,
+}
+
+/// A table, by its name and its columns in order.
+#[derive(Drop)]
+pub struct Table {
+    pub name: Str,
+    pub columns: Items<Column>,
+}
+
+/// The tables of a database, in the order in which they were declared.
+#[derive(Drop)]
+pub struct Schema {
+    tables: Items<Table>,
+}
+
+impl Model for Schema {
+    ghost use Rattle.std.specs.Prelude.{◌≡◌, List, true};
+    ghost use Rattle.lint_core.specs.declared.schema.Table.{Table};
+    ghost use Rattle.lint_core.specs.Schema.{is_schema};
+
+    ghost Value = { List Table };
+
+    ghost view = { λ s. s.tables };
+
+    ghost invariant = { λ s. is_schema s.tables ≡ true };
+}
+
+impl Schema {
+    /// The schema of these tables. `None` exactly where a domain is none of the ranges of SMALLINT,
+    /// INTEGER and BIGINT, a table has more than 64 columns, or there are more than 200 tables.
+    pub fn new(tables: Items<Table>) -> Option<Schema>
+        ensures some { IfSome result (λ s. (s ≡ tables) × (is_schema tables ≡ true)) }
+        ensures none { IfNone result (is_schema tables ≡ false) }
+    {
+        if are_a_schema(tables.as_slice()) {
+            Some(Schema { tables })
+        } else {
+            None
+        }
+    }
+
+    /// The tables in order.
+    pub fn tables(&self) -> &Items<Table>
+        ensures tables { result.now ≡ self.now }
+        ensures schema { is_schema self.now ≡ true }
+    {
+        &self.tables
+    }
+}
+
+fn are_a_schema(tables: &[Table]) -> bool
+    ensures { result ≡ is_schema tables.now }
+{
+    tables.len() <= 200 && are_tables(tables)
+}
+
+fn are_tables(tables: &[Table]) -> bool
+    ensures { result ≡ list_all is_table tables.now }
+{
+    tables.iter().all(|t| t.is_within_limits())
+}
+
+fn have_known_domains(columns: &[Column]) -> bool
+    ensures { result ≡ list_all (λ c. is_domain c.domain) columns.now }
+{
+    columns.iter().all(|c| c.domain.is_known())
+}
+
+impl Domain {
+    fn is_known(&self) -> bool
+        ensures { result ≡ is_domain self.now }
+    {
+        let Domain::Number {
+            least,
+            greatest,
+            unit: Unit::Whole,
+        } = *self;
+        matches!(
+            (least, greatest),
+            (-0x8000, 0x7fff) | (-0x8000_0000, 0x7fff_ffff) | (i64::MIN, i64::MAX)
+        )
+    }
+}
+
+impl Table {
+    fn is_within_limits(&self) -> bool
+        ensures { result ≡ is_table self.now }
+    {
+        let columns = self.columns.as_slice();
+        columns.len() <= 64 && have_known_domains(columns)
+    }
+}
