@@ -1,0 +1,6 @@
+pub mod Blank
+pub mod Tokens
+pub mod Reserved
+pub mod FirstSchema
+pub mod FirstQuery
+pub mod Refused

@@ -1,0 +1,12 @@
+-- A text of another form is refused as a whole.
+use Rattle.std.specs.Prelude.{ℕ, ◌≡◌, List}
+use Rattle.lint_base.specs.declared.place.Fault.TheVariants.{NotBuilt}
+use Rattle.lint_base.specs.declared.place.Refusal.{Refusal}
+use Rattle.lint_base.specs.declared.place.TextStop.{TextStop}
+use Rattle.lint_base.specs.declared.place.TextStop.TheVariants as stop
+use Rattle.sql_parse.specs.Blank.{inner_span}
+
+-- unless memory ran out, the text is refused with this place, and nothing is its reading
+abbrev pub IsRefused : {A : Type 0} → List ℕ → (A → Type 0) → TextStop → Type 0
+IsRefused text reads stop.NoMemory = Unit {0}
+IsRefused {A} text reads (stop.Refused refusal) = (refusal ≡ record { fault = NotBuilt; span = inner_span text; count = 0 }) × ((tree : A) → reads tree → ⊥)
