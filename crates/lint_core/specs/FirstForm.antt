@@ -1,6 +1,6 @@
 -- The queries that are read so far: one table, and a WHERE of comparisons of a column with a number,
 -- joined by AND.
-use Rattle.std.specs.Prelude.{ℕ, ℤ, pos, ◌<◌, ◌≡◌, List, [], ◌∷◌, length, map, slice_get, Some}
+use Rattle.std.specs.Prelude.{ℕ, ℤ, pos, ◌<◌, ◌≤◌, ◌≡◌, List, [], ◌∷◌, length, map, slice_get, Some}
 use Rattle.std.specs.List.{All}
 use Rattle.lint_base.specs.declared.place.Span.{Span}
 use Rattle.lint_core.specs.declared.schema.Unit.TheVariants.{Whole}
@@ -28,9 +28,11 @@ where_cond [] = And []
 where_cond (c ∷ []) = conjunct_cond c
 where_cond (c ∷ next ∷ cs) = And (map conjunct_cond (c ∷ next ∷ cs))
 
--- the query has one entry, of this table, and this WHERE, which names the table's columns
+-- the query has one entry, of this table, and this WHERE of at most 4,096 comparisons, which names the
+-- table's columns
 pub record IsFirstForm (schema : List Table) (query : Query) (table : Table) (conjuncts : List Conjunct) : Type 0 where
   pub one_entry : (entry : Entry) × (query.block.entries ≡ entry ∷ []) × (slice_get schema entry.table ≡ Some table)
   pub filter : query.block.cond ≡ where_cond conjuncts
   pub some : 0 < length conjuncts
+  pub few : length conjuncts ≤ 4096
   pub columns_exist : All (λ (c : Conjunct). c.column < length table.columns) conjuncts
