@@ -6,9 +6,24 @@
 #![tactic(auto)]
 
 mod items;
+mod memory;
 mod place;
+mod read;
+mod shelf;
+mod sink;
+mod stops;
 mod text;
+mod trace;
 
 pub use items::Items;
+pub use memory::{MemFile, MemShelf, MemSink};
 pub use place::{Failed, Fault, NoMemory, Refusal, Span, TextStop};
+pub use read::read_file;
+pub use shelf::Shelf;
+pub use sink::{Sink, write_text};
+pub use stops::{ReadStop, WriteStop};
 pub use text::Str;
+pub use trace::Trace;
+
+#[cfg(test)]
+mod tests;
