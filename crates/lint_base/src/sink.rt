@@ -30,6 +30,7 @@ pub trait Sink {
 
 /// Writes the whole text. At `WriteFault` the sink failed, and has taken a part from the text's
 /// front. It takes no memory.
+#[tactic(auto, using(crate::proofs::Pieces::appended_more, std::proofs::lemmas::List::take_rest))]
 pub fn write_text<K: Sink>(sink: &mut K, text: &[u8]) -> Result<(), WriteStop>
     ensures ok { OnOk result (Appended (K.contents sink.old) (K.contents sink.new) text.now) }
     ensures stand { OnOk result (K.faults sink.new ≡ K.faults sink.old) }
