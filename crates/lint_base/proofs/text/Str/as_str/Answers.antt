@@ -1,5 +1,5 @@
 -- a text is its characters in UTF-8
-use Rattle.std.proofs.Common.{◌≡◌, ap, sym, ◌∙◌, encode_utf8_all, rules}
+use Rattle.std.proofs.Common.{ap, sym, ◌∙◌, encode_utf8_all}
 use Rattle.std.proofs.lemmas.Str.{encodes-chars}
 use Rattle.std.specs.Str.{chars}
 use Rattle.lint_base.proofs.text.Str.as_str.Goals as goal
