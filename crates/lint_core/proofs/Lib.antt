@@ -1,0 +1,10 @@
+mod Lists
+mod Ring
+mod Inside
+mod Named
+mod Realized
+mod Edges
+mod Steps
+mod Comparisons
+mod Truths
+mod Failures
