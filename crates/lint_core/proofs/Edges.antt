@@ -29,7 +29,8 @@ use Rattle.lint_core.proofs.Lists.{every_at}
 use Rattle.lint_core.proofs.Ring.{int_le_true, same_side, Bounds, ring_sum}
 use Rattle.lint_core.proofs.Inside.{inside}
 use Rattle.lint_core.proofs.Named.{Names, named_side, table_at}
-use Rattle.lint_core.proofs.Realized.{Stands, Realized, layer_holds, holds_out}
+use Rattle.lint_core.proofs.Realized.{Stands, Realized}
+use Rattle.lint_core.proofs.Holds.{layer_holds, holds_out}
 
 -- a difference that has a bound is that of two numbers
 differ_parts : (o p : Option ℤ) (most : ℤ) → differ_by_at_most o p most ≡ true → (a : ℤ) × (b : ℤ) × (o ≡ Some a) × (p ≡ Some b) × ((a -ℤ b) ≤ℤ most)

@@ -2,6 +2,7 @@ mod Lists
 mod Ring
 mod Inside
 mod Named
+mod Holds
 mod Realized
 mod Edges
 mod Steps

@@ -1,11 +1,9 @@
 -- A branch is realized by places of a database: one of its table for each row, at which every fact holds.
-use Rattle.std.proofs.Common.{◌≡◌, ap, ℕ, zero, suc, Bool, true, List, [], ◌∷◌, map}
+use Rattle.std.proofs.Common.{◌≡◌, ℕ, true, List, map}
 use Rattle.std.specs.List.{AllByRecursion}
-use Rattle.lint_core.specs.declared.formula.Formula.{Formula, fold_out-Formula, map-Formula, out-Formula}
-use Rattle.lint_core.specs.declared.formula.Formula.TheOpen.{Formula-F}
 use Rattle.lint_core.specs.declared.database.Database.{Database}
 use Rattle.lint_core.specs.Database.{Place}
-use Rattle.lint_core.specs.Formula.{holds, formula_step, Meaning}
+use Rattle.lint_core.specs.Formula.{holds}
 use Rattle.lint_core.specs.Certificate.{Fact, Branch}
 use Rattle.lint_core.proofs.Named.{Names}
 
@@ -16,10 +14,3 @@ Stands db places fact = (ps : List Place) × Names places fact.rows ps × (holds
 pub record Realized (db : Database) (branch : Branch) (places : List Place) : Type 0 where
   pub tables : map (λ (p : Place). p.table) places ≡ branch.tables
   pub facts : AllByRecursion (Stands db places) branch.facts
-
--- what a formula means at its outermost layer
-abbrev pub layer_holds : Database → Formula-F Formula → List Place → Bool
-layer_holds db layer = formula_step db (map-Formula Formula (Meaning db) (holds db) layer)
-
-pub holds_out : (db : Database) (f : Formula) (ps : List Place) → holds db f ps ≡ layer_holds db (out-Formula f) ps
-holds_out db f ps = ap (λ m. m ps) (fold_out-Formula (Meaning db) (formula_step db) f)

@@ -17,7 +17,8 @@ use Rattle.lint_core.specs.Meets.{meets}
 use Rattle.lint_core.specs.Certificate.{Fact, Branch, with_parts, with_row, is_contradiction, children, branches_after, first_branch, are_closed, accepts}
 use Rattle.lint_core.proofs.Lists.{every_at, every_append, every_then, any_map, some_below}
 use Rattle.lint_core.proofs.Named.{Names, names_more, names_new}
-use Rattle.lint_core.proofs.Realized.{Stands, Realized, layer_holds, holds_out}
+use Rattle.lint_core.proofs.Realized.{Stands, Realized}
+use Rattle.lint_core.proofs.Holds.{layer_holds, holds_out}
 use Rattle.lint_core.proofs.Edges.{no_contradiction}
 
 -- some branch of the list is realized

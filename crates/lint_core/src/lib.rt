@@ -21,7 +21,7 @@ pub use certificate::{Cert, Step, SumEdge};
 pub use condition::{Cond, Op, Term};
 pub use database::{Binding, Counter, Database, Points, Row, Truth, Value};
 pub use formula::{Atom, Formula, Side};
-pub use laws::accepted_steps_refute;
+pub use laws::{accepted_steps_refute, certified_question_holds, formula_says_truth, sentence_says_failure};
 pub use query::{Block, Entry, Item, Query, Question};
 pub use run::{Answer, QueryResult, QueryRun, Run};
 pub use schema::{Column, Domain, Schema, Table, Unit};
