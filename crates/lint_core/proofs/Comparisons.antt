@@ -1,11 +1,8 @@
 -- The formula of a comparison holds exactly where the comparison is true.
-use Rattle.std.proofs.Common.{◌≡◌, ◌∙◌, sym, ap, refl, ℤ, pos, ◌+ℤ◌, ◌-ℤ◌, Bool, true, false, not, ◌&&◌, List, [], ◌∷◌, map, arith}
+use Rattle.std.proofs.Common.{◌≡◌, ◌∙◌, sym, ap, refl, ℤ, pos, ◌+ℤ◌, ◌-ℤ◌, Bool, true, false, not, ◌&&◌, List, [], ◌∷◌, arith}
 use Rattle.std.proofs.lemmas.Int.{ints}
-use Rattle.std.proofs.lemmas.Option.{same_Some}
 use Rattle.std.specs.Prelude.{Option, Some, None, int_lt}
-use Rattle.std.specs.Option.{option_map}
 use Rattle.std.specs.Ordering.{int_eq}
-use Rattle.std.specs.List.{list_all}
 use Rattle.lint_core.specs.declared.condition.Op.{Op}
 use Rattle.lint_core.specs.declared.condition.Op.TheVariants.{Eq, Lt, Le, Gt, Ge}
 use Rattle.lint_core.specs.declared.formula.Side.{Side}
@@ -13,9 +10,9 @@ use Rattle.lint_core.specs.declared.formula.Atom.TheVariants as atom
 use Rattle.lint_core.specs.declared.database.Value.{Value}
 use Rattle.lint_core.specs.declared.database.Value.TheVariants.{Null, Int}
 use Rattle.lint_core.specs.declared.database.Database.{Database}
-use Rattle.lint_core.specs.Database.{Place, places_of}
+use Rattle.lint_core.specs.Database.{Place}
 use Rattle.lint_core.specs.Domain.{int_le}
-use Rattle.lint_core.specs.Formula.{number, differ_by_at_most, side_number, holds, formula_step, Meaning}
+use Rattle.lint_core.specs.Formula.{differ_by_at_most, side_number, holds}
 use Rattle.lint_core.specs.Comparison.{is_related, compare}
 use Rattle.lint_core.specs.Translation.{le, comparison}
 use Rattle.lint_core.specs.Truth.{truth_of, is_true}
@@ -70,20 +67,23 @@ abbrev pub value_of : Option ℤ → ℤ → Value
 value_of None added = Null
 value_of (Some n) added = Int (n +ℤ added)
 
-pub compare_is : (op : Op) (a : Option ℤ) (p : ℤ) (b : Option ℤ) (q : ℤ) → is_true (compare op (value_of a p) (value_of b q)) ≡ test op a p b q
+pub compare_is : (op : Op) (a : Option ℤ) (p : ℤ) (b : Option ℤ) (q : ℤ) →
+    is_true (compare op (value_of a p) (value_of b q)) ≡ test op a p b q
 compare_is op None p b q = sym (test_no_left op p b q)
 compare_is op (Some a) p None q = sym (test_no_right op a p q)
 compare_is op (Some a) p (Some b) q = true_of_test (is_related op (a +ℤ p) (b +ℤ q)) ∙ sym (test_numbers op a p b q)
 
 module _ (db : Database) (ps : List Place) where
-  holds_le : (left right : Side) (most : ℤ) → holds db (le left right most) ps ≡ differ_by_at_most (side_number db ps left) (side_number db ps right) most
+  holds_le : (left right : Side) (most : ℤ) →
+      holds db (le left right most) ps ≡ differ_by_at_most (side_number db ps left) (side_number db ps right) most
   holds_le left right most = holds_atom db (atom.Le left right most) ps
 
-  pub comparison_holds : (op : Op) (a : Side) (p : ℤ) (b : Side) (q : ℤ) → holds db (comparison op a p b q) ps ≡ test op (side_number db ps a) p (side_number db ps b) q
+  pub comparison_holds : (op : Op) (a : Side) (p : ℤ) (b : Side) (q : ℤ) →
+      holds db (comparison op a p b q) ps ≡ test op (side_number db ps a) p (side_number db ps b) q
   comparison_holds Eq a p b q =
       holds_and db (le a b (q -ℤ p) ∷ le b a (p -ℤ q) ∷ []) ps
       ∙ (ap (λ c. c && (holds db (le b a (p -ℤ q)) ps && true)) (holds_le a b (q -ℤ p))
-        ∙ ap (λ c. differ_by_at_most (side_number db ps a) (side_number db ps b) (q -ℤ p) && (c && true)) (holds_le b a (p -ℤ q)))
+      ∙ ap (λ c. differ_by_at_most (side_number db ps a) (side_number db ps b) (q -ℤ p) && (c && true)) (holds_le b a (p -ℤ q)))
   comparison_holds Lt a p b q = holds_le a b (q -ℤ p -ℤ pos 1)
   comparison_holds Le a p b q = holds_le a b (q -ℤ p)
   comparison_holds Gt a p b q = holds_le b a (p -ℤ q -ℤ pos 1)

@@ -1,5 +1,5 @@
 -- What a formula of each kind says, by its parts.
-use Rattle.std.proofs.Common.{◌≡◌, ◌∙◌, sym, ap, ℕ, Bool, List, [], ◌∷◌, ◌++◌, map}
+use Rattle.std.proofs.Common.{◌≡◌, ◌∙◌, ap, ℕ, Bool, List, [], ◌∷◌, ◌++◌}
 use Rattle.std.proofs.lemmas.List.Folds.{list_all-map}
 use Rattle.std.specs.List.{list_any, list_all}
 use Rattle.lint_core.specs.declared.formula.Atom.{Atom}
@@ -26,5 +26,6 @@ module _ (db : Database) where
       holds_out (f.And fs) ps
       ∙ (ap (λ layer. layer_holds layer ps) (f.outs-And fs) ∙ list_all-map (λ m. m ps) (holds db) fs)
 
-  pub holds_exists : (table : ℕ) (body : Formula) (ps : List Place) → holds db (f.Exists table body) ps ≡ list_any (λ place. holds db body (ps ++ place ∷ [])) (places_of db table)
+  pub holds_exists : (table : ℕ) (body : Formula) (ps : List Place) →
+      holds db (f.Exists table body) ps ≡ list_any (λ place. holds db body (ps ++ place ∷ [])) (places_of db table)
   holds_exists table body ps = holds_out (f.Exists table body) ps ∙ ap (λ layer. layer_holds layer ps) (f.outs-Exists table body)

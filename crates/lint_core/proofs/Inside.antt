@@ -1,8 +1,8 @@
 -- In a database that meets the schema each value lies in the domain of its column.
-use Rattle.std.proofs.Common.{◌≡◌, ◌∙◌, sym, ap, subst, ℕ, zero, suc, Bool, true, false, ◌&&◌, List, [], ◌∷◌}
+use Rattle.std.proofs.Common.{◌≡◌, ◌∙◌, sym, ap, ℕ, zero, suc, Bool, true, List, [], ◌∷◌}
 use Rattle.std.proofs.lemmas.Bool.{and_parts}
 use Rattle.std.proofs.lemmas.Option.{option_and_then_some, same_Some}
-use Rattle.std.specs.Prelude.{Option, Some, None, slice_get, unwrap_or}
+use Rattle.std.specs.Prelude.{Some, slice_get, unwrap_or}
 use Rattle.std.specs.List.{list_all}
 use Rattle.lint_core.specs.declared.database.Value.{Value}
 use Rattle.lint_core.specs.declared.database.Row.{Row}
@@ -19,7 +19,8 @@ passes_at p [] i x all at = cc
 passes_at p (y ∷ ys) zero x all at = ap p (sym (same_Some y x at)) ∙ (and_parts (p y) (list_all p ys) all).0
 passes_at p (y ∷ ys) (suc i) x all at = passes_at p ys i x (and_parts (p y) (list_all p ys) all).1 at
 
-value_inside : (cs : List Column) (vs : List Value) (i : ℕ) (c : Column) (v : Value) → values_meet cs vs ≡ true → slice_get cs i ≡ Some c → slice_get vs i ≡ Some v → is_in_domain c.domain v ≡ true
+value_inside : (cs : List Column) (vs : List Value) (i : ℕ) (c : Column) (v : Value) → values_meet cs vs ≡ true →
+    slice_get cs i ≡ Some c → slice_get vs i ≡ Some v → is_in_domain c.domain v ≡ true
 value_inside [] vs i c v all column value = cc
 value_inside (c' ∷ cs) [] i c v all column value = cc
 value_inside (c' ∷ cs) (v' ∷ vs) zero c v all column value =
@@ -28,7 +29,8 @@ value_inside (c' ∷ cs) (v' ∷ vs) zero c v all column value =
 value_inside (c' ∷ cs) (v' ∷ vs) (suc i) c v all column value =
     value_inside cs vs i c v (and_parts (is_in_domain c'.domain v') (values_meet cs vs) all).1 column value
 
-table_rows_meet : (ts : List Table) (rs : List (List Row)) (i : ℕ) (t : Table) → tables_meet ts rs ≡ true → slice_get ts i ≡ Some t → rows_meet t (unwrap_or (slice_get rs i) []) ≡ true
+table_rows_meet : (ts : List Table) (rs : List (List Row)) (i : ℕ) (t : Table) → tables_meet ts rs ≡ true →
+    slice_get ts i ≡ Some t → rows_meet t (unwrap_or (slice_get rs i) []) ≡ true
 table_rows_meet [] rs i t all at = cc
 table_rows_meet (t' ∷ ts) [] i t all at = cc
 table_rows_meet (t' ∷ ts) (r ∷ rs) zero t all at =
@@ -36,10 +38,12 @@ table_rows_meet (t' ∷ ts) (r ∷ rs) zero t all at =
 table_rows_meet (t' ∷ ts) (r ∷ rs) (suc i) t all at = table_rows_meet ts rs i t (and_parts (rows_meet t' r) (tables_meet ts rs) all).1 at
 
 -- the value of a column in a row that is there
-pub inside : (schema : List Table) (db : Database) → meets schema db ≡ true → (place : Place) (column : ℕ) (v : Value) (t : Table) (c : Column) → value_at db place column ≡ Some v → slice_get schema place.table ≡ Some t → slice_get t.columns column ≡ Some c → is_in_domain c.domain v ≡ true
+pub inside : (schema : List Table) (db : Database) → meets schema db ≡ true →
+    (place : Place) (column : ℕ) (v : Value) (t : Table) (c : Column) → value_at db place column ≡ Some v →
+    slice_get schema place.table ≡ Some t → slice_get t.columns column ≡ Some c → is_in_domain c.domain v ≡ true
 inside schema db all place column v t c value table at =
     option_and_then_some (λ (row : Row). slice_get row.values column) (slice_get (rows_of db place.table) place.row) v value
     (λ row here stands.
-        value_inside t.columns row.values column c v
-        (passes_at (λ (row : Row). values_meet t.columns row.values) (rows_of db place.table) place.row row (table_rows_meet schema db.tables place.table t all table) here)
-        at stands)
+    value_inside t.columns row.values column c v
+    (passes_at (λ (row : Row). values_meet t.columns row.values) (rows_of db place.table) place.row row (table_rows_meet schema db.tables place.table t all table) here)
+    at stands)

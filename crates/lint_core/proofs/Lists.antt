@@ -1,12 +1,12 @@
 -- Elements of lists, and the numbers below a number.
-use Rattle.std.proofs.Common.{◌≡◌, add-one, ◌+◌, ◌<◌, ◌∙◌, sym, ap, refl, subst, ℕ, zero, suc, Bool, true, false, ◌&&◌, ◌||◌, ◌⊎◌, inl, inr, List, [], ◌∷◌, ◌++◌, length, map, arith}
+use Rattle.std.proofs.Common.{◌≡◌, add-one, ◌+◌, ◌<◌, ◌∙◌, sym, ap, refl, subst, ℕ, zero, suc, Bool, true, false, ◌||◌, ◌⊎◌, inl, inr, List, [], ◌∷◌, ◌++◌, length, map, arith}
 use Rattle.std.proofs.lemmas.Bool.{cases_lt, or_cases, or_left, or_right}
 use Rattle.std.proofs.lemmas.Bool.Decides.{nat_tests}
 use Rattle.std.proofs.lemmas.List.{length-append}
 use Rattle.std.proofs.lemmas.List.Folds.{list_any-append}
 use Rattle.std.proofs.lemmas.Option.{same_Some}
-use Rattle.std.specs.Prelude.{Option, Some, None, slice_get, nat_lt}
-use Rattle.std.specs.List.{AllByRecursion, list_any, list_all}
+use Rattle.std.specs.Prelude.{Some, slice_get, nat_lt}
+use Rattle.std.specs.List.{AllByRecursion, list_any}
 use Rattle.lint_core.specs.Database.{below}
 
 -- an element of a list of which a fact holds
@@ -53,8 +53,8 @@ pub some_below : (p : ℕ → Bool) (n : ℕ) → list_any p (below n) ≡ true 
 some_below p zero h = cc
 some_below p (suc n) h =
     elim (or_cases (list_any p (below n)) (p n || false) (sym (list_any-append p (below n) (n ∷ [])) ∙ h)) [
-      inl early ↦ let found = some_below p n early in (found.0, below_wider found.0 n found.1, found.2)
-    | inr late ↦ (n, below_last n, elim (or_cases (p n) false late) [ inl here ↦ here | inr never ↦ cc ])
+      | inl early ↦ let found = some_below p n early in (found.0, below_wider found.0 n found.1, found.2)
+      | inr late ↦ (n, below_last n, elim (or_cases (p n) false late) [ inl here ↦ here | inr never ↦ cc ])
     ]
 
 pub any_below : (p : ℕ → Bool) (n k : ℕ) → nat_lt k n ≡ true → p k ≡ true → list_any p (below n) ≡ true
@@ -62,9 +62,9 @@ any_below p zero k low passes = absurd (none_below k low)
 any_below p (suc n) k low passes =
     list_any-append p (below n) (n ∷ [])
     ∙ elim (below_split k n low) [
-        inl less ↦ or_left (list_any p (below n)) (p n || false) (any_below p n k less passes)
+      | inl less ↦ or_left (list_any p (below n)) (p n || false) (any_below p n k less passes)
       | inr same ↦ or_right (list_any p (below n)) (p n || false) (or_left (p n) false (subst (λ k. p k ≡ true) same passes))
-      ]
+    ]
 
 length_below : (n : ℕ) → length (below n) ≡ n
 length_below zero = refl
@@ -75,9 +75,9 @@ pub below_at : (n k : ℕ) → k < n → slice_get (below n) k ≡ Some k
 below_at zero k low = absurd (omega arith)
 below_at (suc n) k low =
     elim (cases_lt k n) [
-      inl less ↦ slice_get_front (below n) (n ∷ []) k k (below_at n k less)
-    | inr more ↦
-      let same : k ≡ n = omega arith in
-      let last : slice_get (below (suc n)) n ≡ Some n = ap (slice_get (below (suc n))) (sym (length_below n)) ∙ slice_get_last (below n) n in
-      subst (λ k. slice_get (below (suc n)) k ≡ Some k) (sym same) last
+      | inl less ↦ slice_get_front (below n) (n ∷ []) k k (below_at n k less)
+      | inr more ↦
+          let same : k ≡ n = omega arith in
+          let last : slice_get (below (suc n)) n ≡ Some n = ap (slice_get (below (suc n))) (sym (length_below n)) ∙ slice_get_last (below n) n in
+          subst (λ k. slice_get (below (suc n)) k ≡ Some k) (sym same) last
     ]

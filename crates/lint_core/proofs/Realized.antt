@@ -1,5 +1,5 @@
 -- A branch is realized by places of a database: one of its table for each row, at which every fact holds.
-use Rattle.std.proofs.Common.{◌≡◌, ℕ, true, List, map}
+use Rattle.std.proofs.Common.{◌≡◌, true, List, map}
 use Rattle.std.specs.List.{AllByRecursion}
 use Rattle.lint_core.specs.declared.database.Database.{Database}
 use Rattle.lint_core.specs.Database.{Place}

@@ -1,5 +1,5 @@
 -- The bounds of a ring that all hold do not add up to less than nothing.
-use Rattle.std.proofs.Common.{◌≡◌, sym, ap, refl, subst, ℕ, ℤ, pos, ◌+ℤ◌, ◌-ℤ◌, ◌≤ℤ◌, Bool, true, false, not, ◌&&◌, List, [], ◌∷◌, arith}
+use Rattle.std.proofs.Common.{◌≡◌, ap, refl, ℕ, ℤ, pos, ◌-ℤ◌, ◌≤ℤ◌, true, List, [], ◌∷◌, arith}
 use Rattle.std.proofs.lemmas.Int.{ints}
 use Rattle.std.proofs.lemmas.Bool.{and_parts}
 use Rattle.std.proofs.lemmas.Bool.Decides.{nat_tests}
@@ -37,7 +37,8 @@ module _ (reading : Side → ℤ) where
   abbrev pub Bounds : Bound → Type 0
   Bounds b = (reading b.left -ℤ reading b.right) ≤ℤ b.most
 
-  chain_sum : (from : Side) (bs : List Bound) (to : Side) → is_chain from bs to ≡ true → AllByRecursion Bounds bs → (reading from -ℤ reading to) ≤ℤ sum_of bs
+  chain_sum : (from : Side) (bs : List Bound) (to : Side) → is_chain from bs to ≡ true → AllByRecursion Bounds bs →
+      (reading from -ℤ reading to) ≤ℤ sum_of bs
   chain_sum from [] to chain all =
       let same : reading from ≡ reading to = ap reading (same_side from to chain) in omega (arith, ints)
   chain_sum from (b ∷ bs) to chain all =

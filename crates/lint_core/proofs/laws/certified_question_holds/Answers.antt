@@ -1,4 +1,3 @@
-use Rattle.std.proofs.Common.{[]}
 use Rattle.std.proofs.lemmas.Bool.{false_from_ne_true}
 use Rattle.lint_core.specs.Question.{refutes}
 use Rattle.lint_core.specs.Translation.{counter_sentence}
@@ -9,4 +8,4 @@ use Rattle.lint_core.proofs.laws.certified_question_holds.Goals as goal
 pub returns : goal.returns
 returns c = λ schema query question steps fits accepted db all_meet points.
     false_from_ne_true (refutes db query question points)
-    (λ fails. refuted schema db all_meet (counter_sentence query question) steps accepted (refuted_says schema query question fits db points fails))
+    (λ fails. refuted schema db all_meet (counter_sentence query question) steps accepted (refuted_says schema query fits db question points fails))
