@@ -8,8 +8,8 @@
 //! `formula_says_truth` (the formula of a condition holds exactly where it is true),
 //! `sentence_says_failure` (the sentence of a question holds exactly where some points refute it),
 //! `accepted_steps_refute` (a sentence that accepted steps refute holds in no database of the
-//! schema), and `certified_question_holds`, which follows from the other three. They speak of queries
-//! that fit their schema (`Fits`).
+//! schema), and `certified_question_holds`, which follows from these. The queries and conditions that
+//! they speak of fit their schema (`Fits`).
 #![tactic(auto)]
 
 mod certificate;
