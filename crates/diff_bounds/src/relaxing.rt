@@ -147,3 +147,59 @@ fn trace(
     }
     Ok(true)
 }
+
+#[cfg(test)]
+mod tests {
+    use super::*;
+
+    fn edge(left: u32, right: u32, most: i128) -> Edge
+        ensures { result ≡ record { left = left; right = right; most = most } }
+    {
+        Edge { left, right, most }
+    }
+
+    #[test]
+    fn values_where_there_are_some(rt: HostRuntime) {
+        // With no edge each variable is 0, however many there are.
+        for vars in [0, 1, 3] {
+            match solve(rt.alloc(), vars, &[]).expect(&rt, "memory") {
+                Solved::Values(values) => {
+                    assert_eq!(rt; values.as_slice().len(), vars as usize);
+                    assert!(rt; values.as_slice().iter().all(|value| *value == 0));
+                }
+                Solved::Cycle(_) => assert!(rt; false, "a cycle without edges"),
+            }
+        }
+        // Two edges that leave one difference between the variables 0 and 1.
+        for (there, back) in [(-1, 1), (3, -3), (0, 0), (-9, 9)] {
+            let edges = [edge(1, 0, there), edge(0, 1, back)];
+            match solve(rt.alloc(), 2, &edges).expect(&rt, "memory") {
+                Solved::Values(values) => {
+                    let values = values.as_slice();
+                    assert_eq!(rt; values.len(), 2);
+                    assert!(rt; values[0].checked_sub(values[1]) == Some(back), "at {back}");
+                }
+                Solved::Cycle(_) => assert!(rt; false, "a cycle at {back}"),
+            }
+        }
+    }
+
+    #[test]
+    fn a_cycle_where_there_are_none(rt: HostRuntime) {
+        for (there, back) in [(-1, 0), (0, -1), (5, -6)] {
+            let edges = [edge(1, 0, there), edge(0, 1, back)];
+            match solve(rt.alloc(), 2, &edges).expect(&rt, "memory") {
+                Solved::Values(_) => assert!(rt; false, "values at {back}"),
+                Solved::Cycle(cycle) => {
+                    let cycle = cycle.as_slice();
+                    assert_eq!(rt; cycle.len(), 2);
+                    assert!(rt; cycle.contains(&0) && cycle.contains(&1));
+                }
+            }
+        }
+        match solve(rt.alloc(), 1, &[edge(0, 0, -1)]).expect(&rt, "memory") {
+            Solved::Values(_) => assert!(rt; false, "values"),
+            Solved::Cycle(cycle) => assert_eq!(rt; cycle.as_slice(), [0].as_slice()),
+        }
+    }
+}
