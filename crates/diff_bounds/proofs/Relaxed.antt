@@ -1,5 +1,5 @@
 -- One edge relaxed: what its sum is in the code's numbers, and what each outcome means.
-use Rattle.std.proofs.Common.{◌≡◌, ℕ, ℤ, pos, ◌+ℤ◌, ◌≤ℤ◌, ◌<ℤ◌, ◌*◌, ◌^◌, ◌<◌, ◌≤◌, List, [], ◌∷◌, length, Bool, true, false, Option, Some, All, FitsSigned, to_z, of_z, slice_index_or, set, refl, ap, arith, ◌∙◌}
+use Rattle.std.proofs.Common.{◌≡◌, ℕ, ℤ, pos, ◌+ℤ◌, ◌≤ℤ◌, ◌<ℤ◌, ◌+◌, ◌*◌, ◌^◌, ◌<◌, ◌≤◌, List, length, true, false, Option, Some, All, FitsSigned, to_z, of_z, slice_index_or, set, refl, ap, arith, ◌∙◌}
 use mir.Syntax.{w128}
 use Rattle.std.specs.Int.Signed.{le_z}
 use Rattle.std.proofs.lemmas.Int.{ints, to_z-of_z}
@@ -7,9 +7,8 @@ use Rattle.std.proofs.lemmas.List.{get_or_read}
 use Rattle.diff_bounds.specs.declared.system.Edge.{Edge}
 use Rattle.diff_bounds.specs.System.{value_in, IsAmong, IsModerate, Holds}
 use Rattle.diff_bounds.specs.Cycles.{edge_at}
-use Rattle.diff_bounds.specs.Relaxing.{Traces, IsTight, IsAnswerCycle, height}
-use Rattle.diff_bounds.proofs.Chains.{value_above, closes}
-use Rattle.diff_bounds.proofs.Lowering.{lowers, height_falls}
+use Rattle.diff_bounds.specs.Relaxing.{IsHeld, IsAbove, height}
+use Rattle.diff_bounds.proofs.Lowering.{lowers, above_after, height_falls}
 
 le_true : (a b : ℤ) → le_z a b ≡ true → a ≤ℤ b
 le_true a b test = grind (arith, ints)
@@ -21,11 +20,11 @@ le_false a b test = grind (arith, ints)
 abbrev pub made : ℤ → ℤ → ℤ
 made v most = to_z w128 (of_z w128 v) +ℤ to_z w128 (of_z w128 most)
 
-fits_between : (z : ℤ) → pos 0 ≤ℤ (z +ℤ pos (2 ^ 83)) → z ≤ℤ pos (2 ^ 83) → FitsSigned w128 z
+fits_between : (z : ℤ) → pos 0 ≤ℤ (z +ℤ pos (2 ^ 100)) → z ≤ℤ pos (2 ^ 100) → FitsSigned w128 z
 fits_between z low high = omega (arith, ints)
 
-module _ (edges : List Edge) (vars : ℕ) (values : List ℤ) (reasons : List (Option ℕ)) (tight : IsTight edges vars values reasons)
-    (among : All (IsAmong vars) edges) (moderate : All IsModerate edges) (few : vars ≤ 32769) (number : ℕ) (listed : number < length edges) (right : ℤ)
+module _ (edges : List Edge) (vars : ℕ) (values : List ℤ) (reasons : List (Option ℕ)) (held : IsHeld edges vars values reasons)
+    (among : All (IsAmong vars) edges) (moderate : All IsModerate edges) (few : length edges ≤ 2 ^ 20) (number : ℕ) (listed : number < length edges) (above : IsAbove values (32769 + number)) (right : ℤ)
     (read : right ≡ slice_index_or values (edge_at edges number).right right) where
   abbrev most : ℤ
   most = (edge_at edges number).most
@@ -35,20 +34,20 @@ module _ (edges : List Edge) (vars : ℕ) (values : List ℤ) (reasons : List (O
 
   right_is : right ≡ value_in values (edge_at edges number).right
   right_is =
-      let count : length values ≡ vars = tight.values_length in
+      let count : length values ≡ vars = held.values_length in
       let ends : IsAmong vars (edge_at edges number) = among_at number listed in
       get_or_read values (edge_at edges number).right right (omega arith) read (pos 0)
 
-  right_above : pos 0 ≤ℤ (right +ℤ pos (32769 * 2 ^ 66))
+  right_above : pos 0 ≤ℤ (right +ℤ pos (2 ^ 87))
   right_above =
       let is : right ≡ value_in values (edge_at edges number).right = right_is in
-      let up : pos 0 ≤ℤ (value_in values (edge_at edges number).right +ℤ pos (32769 * 2 ^ 66)) = value_above edges vars values reasons tight (λ e within. moderate e _ within) few (edge_at edges number).right in
+      let up : pos 0 ≤ℤ (value_in values (edge_at edges number).right +ℤ pos ((32769 + number) * 2 ^ 66)) = above (edge_at edges number).right in
       omega (arith, ints)
 
   right_falls : right ≤ℤ pos 0
   right_falls =
       let is : right ≡ value_in values (edge_at edges number).right = right_is in
-      let down : value_in values (edge_at edges number).right ≤ℤ pos 0 = tight.falls (edge_at edges number).right in
+      let down : value_in values (edge_at edges number).right ≤ℤ pos 0 = held.falls (edge_at edges number).right in
       omega (arith, ints)
 
   right_fits : FitsSigned w128 right
@@ -77,15 +76,15 @@ module _ (edges : List Edge) (vars : ℕ) (values : List ℤ) (reasons : List (O
   module _ (left : ℤ) (read_left : left ≡ slice_index_or values (edge_at edges number).left left) where
     left_is : left ≡ value_in values (edge_at edges number).left
     left_is =
-        let count : length values ≡ vars = tight.values_length in
+        let count : length values ≡ vars = held.values_length in
         let ends : IsAmong vars (edge_at edges number) = among_at number listed in
         get_or_read values (edge_at edges number).left left (omega arith) read_left (pos 0)
 
     left_fits : FitsSigned w128 left
     left_fits =
         let is : left ≡ value_in values (edge_at edges number).left = left_is in
-        let down : value_in values (edge_at edges number).left ≤ℤ pos 0 = tight.falls (edge_at edges number).left in
-        let up : pos 0 ≤ℤ (value_in values (edge_at edges number).left +ℤ pos (32769 * 2 ^ 66)) = value_above edges vars values reasons tight (λ e within. moderate e _ within) few (edge_at edges number).left in
+        let down : value_in values (edge_at edges number).left ≤ℤ pos 0 = held.falls (edge_at edges number).left in
+        let up : pos 0 ≤ℤ (value_in values (edge_at edges number).left +ℤ pos ((32769 + number) * 2 ^ 66)) = above (edge_at edges number).left in
         fits_between left (omega (arith, ints)) (omega (arith, ints))
 
     shown_is : to_z w128 (of_z w128 left) ≡ value_in values (edge_at edges number).left
@@ -106,24 +105,33 @@ module _ (edges : List Edge) (vars : ℕ) (values : List ℤ) (reasons : List (O
         let sum : to_z w128 (of_z w128 (made right most)) ≡ value_in values (edge_at edges number).right +ℤ most = stored_is in
         rw (← left_end, ← sum) order
 
-    module _ (test : le_z (to_z w128 (of_z w128 left)) (to_z w128 (of_z w128 (made right most))) ≡ false) (chain : List ℕ) where
-      -- where the chain of reasons comes back, there is a cycle
-      pub cycle : (met : Bool) → met ≡ true → Traces edges reasons (edge_at edges number).right (edge_at edges number).left (number ∷ []) chain met → IsAnswerCycle edges vars chain
-      cycle true is traces = rw traces.1 (closes edges vars values reasons tight among_at number listed (asks_less test) traces.0 traces.2)
-      cycle false is traces = absurd (cc is)
+    abbrev lowered_values : List ℤ
+    lowered_values = set values (edge_at edges number).left (to_z w128 (of_z w128 (made right most)))
 
-      -- where it ends, the value can be lowered
-      pub still_tight : (met : Bool) → met ≡ false → Traces edges reasons (edge_at edges number).right (edge_at edges number).left (number ∷ []) chain met → IsTight edges vars (set values (edge_at edges number).left (to_z w128 (of_z w128 (made right most)))) (set reasons (edge_at edges number).left (Some number))
-      still_tight true is traces = absurd (cc is)
-      still_tight false is traces =
-          rw stored_is (lowers edges vars values reasons tight number (edge_at edges number).left (edge_at edges number).right most listed refl refl refl (among_at number listed).left (asks_less test) traces.0 traces.1)
+    -- where it fails the value is lowered
+    pub still_held : le_z (to_z w128 (of_z w128 left)) (to_z w128 (of_z w128 (made right most))) ≡ false → IsHeld edges vars lowered_values (set reasons (edge_at edges number).left (Some number))
+    still_held test =
+        rw stored_is (lowers edges vars values reasons held number (edge_at edges number).left (edge_at edges number).right most listed refl refl refl (among_at number listed).left (asks_less test))
+
+    pub still_above : le_z (to_z w128 (of_z w128 left)) (to_z w128 (of_z w128 (made right most))) ≡ false → IsAbove lowered_values (32769 + (number + 1))
+    still_above test at =
+        let lower : IsAbove lowered_values (32769 + number + 1) =
+        rw stored_is (above_after edges vars values reasons held number (edge_at edges number).left (edge_at edges number).right most listed refl refl refl (among_at number listed).left (asks_less test) (32769 + number) above (moderate number _ listed)) in
+        let up : pos 0 ≤ℤ (value_in lowered_values at +ℤ pos ((32769 + number + 1) * 2 ^ 66)) = lower at in
+        omega (arith, ints)
 
     pub falls : le_z (to_z w128 (of_z w128 left)) (to_z w128 (of_z w128 (made right most))) ≡ false → height (set values (edge_at edges number).left (to_z w128 (of_z w128 (made right most)))) < height values
     falls test =
-        let count : length values ≡ vars = tight.values_length in
+        let count : length values ≡ vars = held.values_length in
         let ends : IsAmong vars (edge_at edges number) = among_at number listed in
         let bound : IsModerate (edge_at edges number) = moderate number _ listed in
         let up = right_above in
         let is : right ≡ value_in values (edge_at edges number).right = right_is in
         let less : (value_in values (edge_at edges number).right +ℤ most) <ℤ value_in values (edge_at edges number).left = asks_less test in
         rw stored_is (height_falls values (edge_at edges number).left (value_in values (edge_at edges number).right +ℤ most) (omega arith) (omega (arith, ints)) less)
+
+-- values that are not lowered lie above any lower bound
+pub above_more : (values : List ℤ) (number : ℕ) → IsAbove values (32769 + number) → IsAbove values (32769 + (number + 1))
+above_more values number above at =
+    let up : pos 0 ≤ℤ (value_in values at +ℤ pos ((32769 + number) * 2 ^ 66)) = above at in
+    omega (arith, ints)

@@ -2,7 +2,10 @@
 //! chain of edges whose bounds have a negative sum, which no values satisfy.
 //!
 //! The layer above may use every public item. Of `specs/` a reader must believe `System`, `Cycles` and
-//! `Answer`.
+//! `Answer`. `Relaxing` speaks of the steps in between, and no public clause cites it.
+//!
+//! A body that answers `NoMemory` at once meets the contract of `solve`, since no clause can say that
+//! memory is left: the tests show that it succeeds.
 #![tactic(auto)]
 
 mod relaxing;

@@ -1,32 +1,49 @@
-//! Edges are relaxed in turn until each holds, or until one closes a cycle.
-ghost use Rattle.std.specs.Prelude.{ℕ, ◌<◌, ◌≤◌, ◌^◌, ◌≡◌, List, All, length, IfOk};
+//! Edges are relaxed in turn until each holds, or until the edges that last lowered the values close
+//! a cycle.
+ghost use Rattle.std.specs.Prelude.{
+  ℕ,
+  ◌<◌,
+  ◌≤◌,
+  ◌+◌,
+  ◌^◌,
+  ◌++◌,
+  ◌≡◌,
+  List,
+  All,
+  length,
+  None,
+  replicate,
+  IfOk,
+  MatchOption,
+};
 ghost use Rattle.diff_bounds.specs.declared.system.Edge.{Edge};
 ghost use Rattle.diff_bounds.specs.System.{IsAmong, IsModerate, Satisfies, value_in};
 ghost use Rattle.diff_bounds.specs.Cycles.{IsNegativeCycle, IsSimple};
 ghost use Rattle.diff_bounds.specs.Answer.{IfValues, IfCycle};
-ghost use Rattle.diff_bounds.specs.Relaxing.{IsSound, AreReasons, Traces, DoneTo, DoneToAll};
+ghost use Rattle.diff_bounds.specs.Relaxing.{
+  IsSound,
+  IsAbove,
+  AreReasons,
+  AllEnd,
+  IsSettled,
+  IsSettledAfter,
+  Closes,
+  ComesTo,
+  DoneTo,
+  DoneToAll,
+  IsAnswerCycle,
+  mark_of,
+};
 
 use crate::system::{Edge, Solved};
 use lint_base::{Items, NoMemory};
 use std::alloc::Global;
 
-/// What was done to one edge, or to all in turn.
-#[derive(Clone, Copy, Debug)]
-pub(crate) enum Step {
-    /// Each edge holds, and nothing was changed.
-    Kept,
-    /// A value was lowered.
-    Lowered,
-    /// A cycle was found.
-    Cycle,
-}
-
-/// The values so far, for each variable the edge that last lowered it, and the chain that is looked at.
+/// The values so far, and for each variable the edge that last lowered it.
 #[derive(Drop)]
 pub(crate) struct Search {
     values: Vec<i128>,
     reasons: Vec<Option<u32>>,
-    chain: Vec<u32>,
 }
 
 /// Values for the variables 0 to `vars` - 1 that satisfy every edge, or the edges of a cycle: a closed
@@ -45,107 +62,168 @@ pub fn solve(alloc: Global, vars: u32, edges: &[Edge]) -> Result<Solved, NoMemor
     ensures simple { IfOk result (λ s. IfCycle s (λ cycle. IsSimple edges.now cycle)) }
 {
     let mut search = Search::new(alloc, vars)?;
-    loop {
-        match search.relax_all(edges)? {
-            Step::Kept => return Ok(Solved::Values(Items::from_vec(search.values))),
-            Step::Lowered => {}
-            Step::Cycle => return Ok(Solved::Cycle(Items::from_vec(search.chain))),
+    while search.relax_all(edges) {
+        if let Some(cycle) = find_cycle(alloc, edges, &search.reasons)? {
+            return Ok(Solved::Cycle(Items::from_vec(cycle)));
         }
     }
+    Ok(Solved::Values(Items::from_vec(search.values)))
 }
 
 impl Search {
     /// Each variable is 0, for no reason.
     fn new(alloc: Global, vars: u32) -> Result<Search, NoMemory>
-        ensures { IfOk result (λ search. (edges : List Edge) → IsSound edges vars search) }
+        ensures sound { IfOk result (λ search. (edges : List Edge) → IsSound edges vars search) }
+        ensures ends { IfOk result (λ search. (edges : List Edge) → AllEnd edges search.reasons.items) }
     {
         let mut values = Vec::new(alloc);
-        let mut reasons = Vec::new(alloc);
         for _ in 0..vars {
             values.push(0)?;
-            reasons.push(None)?;
         }
         Ok(Search {
             values,
-            reasons,
-            chain: Vec::new(alloc),
+            reasons: nones(alloc, vars as usize)?,
         })
     }
 
-    /// Relaxes each edge once, up to the first that closes a cycle.
-    fn relax_all(&mut self, edges: &[Edge]) -> Result<Step, NoMemory>
+    /// Relaxes each edge once, and tells whether a value was lowered.
+    fn relax_all(&mut self, edges: &[Edge]) -> bool
         requires ends { All (IsAmong (length self.old.values.items)) edges.now }
         requires moderate { All IsModerate edges.now }
-        requires variables { length self.old.values.items ≤ 32769 }
         requires few { length edges.now ≤ 2 ^ 20 }
         requires sound { IsSound edges.now (length self.old.values.items) self.old }
+        requires above { IsAbove self.old.values.items 32769 }
         ensures sound { IsSound edges.now (length self.old.values.items) self.new }
-        ensures done { let vars = length self.old.values.items in
-            IfOk result (λ step. DoneToAll edges.now vars self.old self.new step) }
+        ensures done { DoneToAll edges.now self.old self.new result }
     {
-        let mut done = Step::Kept;
+        let mut lowered = false;
         for number in 0..edges.len() as u32 {
-            match self.relax(edges, number)? {
-                Step::Kept => {}
-                Step::Lowered => done = Step::Lowered,
-                Step::Cycle => return Ok(Step::Cycle),
+            if self.relax(edges, number) {
+                lowered = true;
             }
         }
-        Ok(done)
+        lowered
     }
 
-    /// Lowers the edge's left end if the edge doesn't hold, unless a cycle shows that this would never end.
-    fn relax(&mut self, edges: &[Edge], number: u32) -> Result<Step, NoMemory>
+    /// Lowers the edge's left end if the edge doesn't hold, and tells whether it did.
+    fn relax(&mut self, edges: &[Edge], number: u32) -> bool
         requires listed { number < length edges.now }
         requires ends { All (IsAmong (length self.old.values.items)) edges.now }
         requires moderate { All IsModerate edges.now }
-        requires variables { length self.old.values.items ≤ 32769 }
+        requires few { length edges.now ≤ 2 ^ 20 }
         requires sound { IsSound edges.now (length self.old.values.items) self.old }
+        requires above { IsAbove self.old.values.items (32769 + number) }
         ensures sound { IsSound edges.now (length self.old.values.items) self.new }
-        ensures done { let vars = length self.old.values.items in
-            IfOk result (λ step. DoneTo edges.now vars number self.old self.new step) }
+        ensures above { IsAbove self.new.values.items (32769 + (number + 1)) }
+        ensures done { DoneTo edges.now number self.old self.new result }
     {
         let edge = edges[number as usize];
         let asked = self.values[edge.right as usize] + edge.most;
         if self.values[edge.left as usize] <= asked {
-            return Ok(Step::Kept);
-        }
-        self.chain.clear();
-        self.chain.push(number)?;
-        if trace(edges, &self.reasons, edge.right, edge.left, &mut self.chain)? {
-            return Ok(Step::Cycle);
+            return false;
         }
         self.values[edge.left as usize] = asked;
         self.reasons[edge.left as usize] = Some(number);
-        Ok(Step::Lowered)
+        true
     }
 }
 
-/// Whether the chain of reasons from `from` meets `to`. Adds the edges up to there to `chain`.
+/// No number in each place.
+fn nones(alloc: Global, count: usize) -> Result<Vec<Option<u32>>, NoMemory>
+    ensures { IfOk result (λ v. v.items ≡ replicate count None) }
+{
+    let mut all = Vec::new(alloc);
+    for _ in 0..count {
+        all.push(None)?;
+    }
+    Ok(all)
+}
+
+/// A cycle of edges that are each the reason of their left end, if there is one. It takes time in
+/// proportion to the number of variables.
+fn find_cycle(
+    alloc: Global,
+    edges: &[Edge],
+    reasons: &[Option<u32>],
+) -> Result<Option<Vec<u32>>, NoMemory>
+    requires ends { All (IsAmong (length reasons.now)) edges.now }
+    requires variables { length reasons.now ≤ 32769 }
+    requires reasons { AreReasons edges.now reasons.now }
+    ensures { let vars = length reasons.now in
+        IfOk result (λ found.
+        MatchOption found (AllEnd edges.now reasons.now)
+        (λ cycle. IsAnswerCycle edges.now vars cycle.items)) }
+{
+    let mut marks = nones(alloc, reasons.len())?;
+    for root in 0..reasons.len() as u32 {
+        if marks[root as usize].is_some() {
+            continue;
+        }
+        if let Some(number) = mark(edges, reasons, root, &mut marks) {
+            let edge = edges[number as usize];
+            let mut cycle = Vec::new(alloc);
+            cycle.push(number)?;
+            trace(edges, reasons, edge.right, edge.left, &mut cycle)?;
+            return Ok(Some(cycle));
+        }
+    }
+    Ok(None)
+}
+
+/// Marks the variables on the chain of reasons from `root` by it, up to one that has a mark. An edge
+/// that leads back onto this chain is the answer.
+fn mark(
+    edges: &[Edge],
+    reasons: &[Option<u32>],
+    root: u32,
+    marks: &mut [Option<u32>],
+) -> Option<u32>
+    requires ends { All (IsAmong (length reasons.now)) edges.now }
+    requires reasons { AreReasons edges.now reasons.now }
+    requires root { root < length reasons.now }
+    requires count { length marks.old ≡ length reasons.now }
+    requires fresh { mark_of marks.old root ≡ None }
+    requires settled { IsSettled edges.now reasons.now root marks.old }
+    ensures { MatchOption result (IsSettledAfter edges.now reasons.now root marks.new)
+        (λ number. Closes edges.now reasons.now number) }
+{
+    let mut at = root;
+    loop {
+        marks[at as usize] = Some(root);
+        let Some(number) = reasons[at as usize] else {
+            return None;
+        };
+        at = edges[number as usize].right;
+        if let Some(other) = marks[at as usize] {
+            return if other == root { Some(number) } else { None };
+        }
+    }
+}
+
+/// Adds the chain of reasons that leads from `from` to `to`.
 fn trace(
     edges: &[Edge],
     reasons: &[Option<u32>],
     from: u32,
     to: u32,
     chain: &mut Vec<u32>,
-) -> Result<bool, NoMemory>
+) -> Result<(), NoMemory>
     requires ends { All (IsAmong (length reasons.now)) edges.now }
     requires start { from < length reasons.now }
     requires reasons { AreReasons edges.now reasons.now }
+    requires comes { (es : List ℕ) × ComesTo edges.now reasons.now to from es }
     ensures { let old = chain.old.items in
-        IfOk result (λ met. Traces edges.now reasons.now from to old chain.new.items met) }
+        IfOk result (λ _. (es : List ℕ) × (chain.new.items ≡ old ++ es) × ComesTo edges.now reasons.now to from es) }
 {
     let mut at = from;
-    while at != to {
-        match reasons[at as usize] {
-            None => return Ok(false),
-            Some(number) => {
-                chain.push(number)?;
-                at = edges[number as usize].right;
-            }
+    while let Some(number) = reasons[at as usize] {
+        if at == to {
+            break;
         }
+        chain.push(number)?;
+        at = edges[number as usize].right;
     }
-    Ok(true)
+    Ok(())
 }
 
 #[cfg(test)]

@@ -1,9 +1,12 @@
-use Rattle.diff_bounds.specs.Relaxing.{IsSound, height}
+use Rattle.diff_bounds.specs.Relaxing.{IsSound, AllEnd, height}
 use Rattle.diff_bounds.proofs.relaxing.solve.Given as goal
 
-abbrev pub invariant-loop-search : goal.invariant-loop-search
-invariant-loop-search l = IsSound l.edges l.vars l.search
+abbrev pub invariant-loop-alloc : goal.invariant-loop-alloc
+invariant-loop-alloc l = record {
+  sound : IsSound l.edges l.vars l.search;
+  ends : AllEnd l.edges l.search.reasons.items;
+}
 
 -- the values only fall, and not below a limit
-abbrev pub decreases-loop-search : goal.decreases-loop-search
-decreases-loop-search l = height l.search.values.items
+abbrev pub decreases-loop-alloc : goal.decreases-loop-alloc
+decreases-loop-alloc l = height l.search.values.items
