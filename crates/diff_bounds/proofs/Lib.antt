@@ -1,0 +1,6 @@
+pub mod Chains
+pub mod Closing
+pub mod Exclusion
+pub mod Lowering
+pub mod Relaxed
+pub mod Marking
