@@ -10,7 +10,7 @@ Holds value edge = value edge.left ≤ℤ (value edge.right +ℤ edge.most)
 abbrev pub Satisfies : (ℕ → ℤ) → List Edge → Type 0
 Satisfies value edges = All (Holds value) edges
 
--- the value of each variable, where the values are listed by the variables' numbers
+-- the value of each variable, where the values are listed by the variables' numbers; 0 past the end of the list
 abbrev pub value_in : List ℤ → ℕ → ℤ
 value_in values variable = slice_index_or values variable (pos 0)
 

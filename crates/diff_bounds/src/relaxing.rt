@@ -1,39 +1,14 @@
 //! Edges are relaxed in turn until each holds, or until the edges that last lowered the values close
 //! a cycle.
-ghost use Rattle.std.specs.Prelude.{
-  ℕ,
-  ◌<◌,
-  ◌≤◌,
-  ◌+◌,
-  ◌^◌,
-  ◌++◌,
-  ◌≡◌,
-  List,
-  All,
-  length,
-  None,
-  replicate,
-  IfOk,
-  MatchOption,
-};
+ghost use Rattle.std.specs.Prelude.{ℕ, ◌<◌, ◌≤◌, ◌+◌, ◌^◌, ◌++◌, ◌≡◌, IfOk, MatchOption};
+ghost use Rattle.std.specs.Prelude.{List, All, length, None, replicate};
 ghost use Rattle.diff_bounds.specs.declared.system.Edge.{Edge};
 ghost use Rattle.diff_bounds.specs.System.{IsAmong, IsModerate, Satisfies, value_in};
 ghost use Rattle.diff_bounds.specs.Cycles.{IsNegativeCycle, IsSimple};
 ghost use Rattle.diff_bounds.specs.Answer.{IfValues, IfCycle};
-ghost use Rattle.diff_bounds.specs.Relaxing.{
-  IsSound,
-  IsAbove,
-  AreReasons,
-  AllEnd,
-  IsSettled,
-  IsSettledAfter,
-  Closes,
-  ComesTo,
-  DoneTo,
-  DoneToAll,
-  IsAnswerCycle,
-  mark_of,
-};
+ghost use Rattle.diff_bounds.specs.Relaxing.{IsSound, IsAbove, DoneTo, DoneToAll};
+ghost use Rattle.diff_bounds.specs.Relaxing.{AreReasons, AllEnd, ComesTo, Closes, IsAnswerCycle};
+ghost use Rattle.diff_bounds.specs.Relaxing.{IsSettled, IsSettledAfter, mark_of};
 
 use crate::system::{Edge, Solved};
 use lint_base::{Items, NoMemory};
@@ -41,7 +16,7 @@ use std::alloc::Global;
 
 /// The values so far, and for each variable the edge that last lowered it.
 #[derive(Drop)]
-pub(crate) struct Search {
+struct Search {
     values: Vec<i128>,
     reasons: Vec<Option<u32>>,
 }
@@ -150,9 +125,8 @@ fn find_cycle(
     requires variables { length reasons.now ≤ 32769 }
     requires reasons { AreReasons edges.now reasons.now }
     ensures { let vars = length reasons.now in
-        IfOk result (λ found.
-        MatchOption found (AllEnd edges.now reasons.now)
-        (λ cycle. IsAnswerCycle edges.now vars cycle.items)) }
+        let IsFound = λ (cycle : List ℕ). IsAnswerCycle edges.now vars cycle in
+        IfOk result (λ found. MatchOption found (AllEnd edges.now reasons.now) (λ c. IsFound c.items)) }
 {
     let mut marks = nones(alloc, reasons.len())?;
     for root in 0..reasons.len() as u32 {
@@ -213,7 +187,8 @@ fn trace(
     requires reasons { AreReasons edges.now reasons.now }
     requires comes { (es : List ℕ) × ComesTo edges.now reasons.now to from es }
     ensures { let old = chain.old.items in
-        IfOk result (λ _. (es : List ℕ) × (chain.new.items ≡ old ++ es) × ComesTo edges.now reasons.now to from es) }
+        IfOk result (λ _. (es : List ℕ) ×
+        (chain.new.items ≡ old ++ es) × ComesTo edges.now reasons.now to from es) }
 {
     let mut at = from;
     while let Some(number) = reasons[at as usize] {

@@ -32,7 +32,7 @@ loop-at-smaller c =
     let pushed : length c.push.new.self.items ≡ length c.loop-at.chain.items + 1 = ap length c.in_ok-push.ensures.items ∙ length-append c.loop-at.chain.items (c.in-Some.number ∷ []) in
     omega arith
 
--- a chain stops before `to` nowhere
+-- a chain that is known to come to `to` does not end before
 pub returns-in_default : goal.returns-in_default
 returns-in_default c =
     let way = c.loop-at.invariant.way in
