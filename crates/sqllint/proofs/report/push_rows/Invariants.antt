@@ -1,0 +1,7 @@
+use Rattle.std.proofs.Common.{◌≡◌, ◌++◌, ◌+◌, drop, codes, string_bytes}
+use Rattle.std.specs.Fmt.{decimal}
+use Rattle.sqllint.specs.Text.{texts, insert_line}
+use Rattle.sqllint.proofs.report.push_rows.Given as goal
+
+abbrev pub invariant-loop-row : goal.invariant-loop-row
+invariant-loop-row l = string_bytes l.out ++ texts (insert_line l.table) (drop l.row-index l.rows) ≡ string_bytes l.fn.out ++ texts (insert_line l.table) l.rows

@@ -1,0 +1,6 @@
+pub mod Words
+pub mod Text
+pub mod RightRun
+pub mod Stops
+pub mod Status
+pub mod Written

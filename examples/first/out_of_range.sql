@@ -1,0 +1,3 @@
+SELECT number
+FROM employee
+WHERE grade > 32767;

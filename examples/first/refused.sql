@@ -1,0 +1,3 @@
+SELECT number
+FROM employee
+WHERE salary > 5000 OR grade >= 3;

@@ -1,0 +1,5 @@
+CREATE TABLE employee (
+  number INTEGER,
+  salary INTEGER,
+  grade SMALLINT
+);
