@@ -1,7 +1,6 @@
 -- The truth of a condition at a binding (ISO/IEC 9075:1992, 8.12). A binding has one row place for each
 -- FROM entry of each level; the entries' tables say of which table.
-use Rattle.std.specs.Prelude.{ℕ, List, [], ◌∷◌, map, Option, Some, None, slice_get, unwrap_or, option_and_then}
-use Rattle.lint_core.specs.declared.condition.Op.{Op}
+use Rattle.std.specs.Prelude.{ℕ, List, map, Option, Some, slice_get, unwrap_or, option_and_then}
 use Rattle.lint_core.specs.declared.condition.Term.{Term}
 use Rattle.lint_core.specs.declared.condition.Term.TheVariants as term
 use Rattle.lint_core.specs.declared.condition.Cond.{Cond, fold-Cond}

@@ -1,6 +1,6 @@
 -- What stands where in a database. A row is named by its table and its place there, from 0, so equal
 -- rows may stand twice (a table is a multiset of rows: ISO/IEC 9075:1992, 4.9).
-use Rattle.std.specs.Prelude.{ℕ, zero, suc, List, [], ◌∷◌, ◌++◌, length, map, Option, Some, None, slice_get, unwrap_or, option_and_then}
+use Rattle.std.specs.Prelude.{ℕ, zero, suc, List, [], ◌∷◌, ◌++◌, length, map, Option, slice_get, unwrap_or, option_and_then}
 use Rattle.lint_core.specs.declared.database.Value.{Value}
 use Rattle.lint_core.specs.declared.database.Row.{Row}
 use Rattle.lint_core.specs.declared.database.Database.{Database}

@@ -1,5 +1,5 @@
 -- When a query fits a schema: every position in it exists.
-use Rattle.std.specs.Prelude.{ℕ, ℤ, pos, Bool, true, false, ◌&&◌, List, [], ◌∷◌, length, map, Option, Some, None, slice_get, option_and_then, nat_lt, nat_le, is_some}
+use Rattle.std.specs.Prelude.{ℕ, pos, Bool, true, false, ◌&&◌, List, length, Option, Some, None, slice_get, option_and_then, nat_lt, nat_le, is_some}
 use Rattle.std.specs.List.{list_all}
 use Rattle.std.specs.Ordering.{int_eq}
 use Rattle.lint_core.specs.declared.condition.Term.{Term}

@@ -1,6 +1,6 @@
 -- When a formula holds at rows of a database: ordinary two-valued truth. The rows are those of its free
 -- variables; a quantifier ranges over the places of its table and appends one.
-use Rattle.std.specs.Prelude.{ℕ, ℤ, pos, ◌-ℤ◌, Bool, true, false, List, [], ◌∷◌, ◌++◌, Option, Some, None, slice_get, option_and_then}
+use Rattle.std.specs.Prelude.{ℤ, pos, ◌-ℤ◌, Bool, false, List, [], ◌∷◌, ◌++◌, Option, Some, None, slice_get, option_and_then}
 use Rattle.std.specs.List.{list_any, list_all}
 use Rattle.lint_core.specs.declared.formula.Side.{Side}
 use Rattle.lint_core.specs.declared.formula.Side.TheVariants as side

@@ -1,9 +1,8 @@
 -- Which lists of tables are a schema. SMALLINT, INTEGER and BIGINT are the whole numbers of 16, 32 and
 -- 64 bits (ISO/IEC 9075:1992, 4.4.1, leaves the ranges to the implementation).
-use Rattle.std.specs.Prelude.{ℕ, ℤ, pos, negsuc, Bool, true, false, ◌&&◌, ◌||◌, List, length, nat_le, ◌^◌, ◌-◌, neg_ℤ}
+use Rattle.std.specs.Prelude.{ℕ, ℤ, pos, Bool, ◌&&◌, ◌||◌, List, length, nat_le, ◌^◌, ◌-◌, neg_ℤ}
 use Rattle.std.specs.List.{list_all}
 use Rattle.std.specs.Ordering.{int_eq}
-use Rattle.lint_core.specs.declared.schema.Unit.{Unit as NumberUnit}
 use Rattle.lint_core.specs.declared.schema.Domain.{Domain}
 use Rattle.lint_core.specs.declared.schema.Domain.TheVariants.{Number}
 use Rattle.lint_core.specs.declared.schema.Column.{Column}

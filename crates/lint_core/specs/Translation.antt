@@ -1,6 +1,6 @@
 -- Conditions as formulas, and questions as sentences. The formula of a condition holds exactly where the
 -- condition is true; the sentence of a question holds in a database exactly where the question fails.
-use Rattle.std.specs.Prelude.{ℕ, suc, ℤ, pos, ◌+ℤ◌, ◌-ℤ◌, List, [], ◌∷◌, length, map, Option, unwrap_or}
+use Rattle.std.specs.Prelude.{ℕ, ℤ, pos, ◌-ℤ◌, List, [], ◌∷◌, length, map, unwrap_or}
 use Rattle.lint_core.specs.declared.condition.Op.{Op}
 use Rattle.lint_core.specs.declared.condition.Op.TheVariants.{Eq, Lt, Le, Gt, Ge}
 use Rattle.lint_core.specs.declared.condition.Term.{Term}

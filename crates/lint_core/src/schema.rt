@@ -121,3 +121,73 @@ impl Table {
         columns.len() <= 64 && have_known_domains(columns)
     }
 }
+
+#[cfg(test)]
+mod tests {
+    use super::*;
+    use lint_base::NoMemory;
+    use std::alloc::Global;
+    use std::test::Fail;
+
+    fn columns_of(alloc: Global, count: u32, domain: Domain) -> Result<Items<Column>, NoMemory> {
+        let mut columns = Items::new(alloc);
+        for _ in 0..count {
+            columns.push(Column {
+                name: Str::from_str(alloc, "c")?,
+                domain,
+            })?;
+        }
+        Ok(columns)
+    }
+
+    fn schema_of(
+        alloc: Global,
+        tables: u32,
+        columns: u32,
+        domain: Domain,
+    ) -> Result<Option<Schema>, NoMemory> {
+        let mut list = Items::new(alloc);
+        for _ in 0..tables {
+            list.push(Table {
+                name: Str::from_str(alloc, "t")?,
+                columns: columns_of(alloc, columns, domain)?,
+            })?;
+        }
+        Ok(Schema::new(list))
+    }
+
+    #[test]
+    fn accepts_known_ranges_and_sizes(rt: HostRuntime) -> Result<(), Fail> {
+        let alloc = rt.alloc();
+        for (tables, columns, least, greatest, accepted) in [
+            (1, 1, -32768, 32767, true),
+            (1, 1, -2147483648, 2147483647, true),
+            (1, 1, -9223372036854775808, 9223372036854775807, true),
+            (1, 1, -32768, 32766, false),
+            (1, 1, -32767, 32767, false),
+            (1, 1, 0, 65535, false),
+            (1, 1, -32768, 2147483647, false),
+            (1, 64, -32768, 32767, true),
+            (1, 65, -32768, 32767, false),
+            (200, 1, -32768, 32767, true),
+            (201, 1, -32768, 32767, false),
+            (0, 0, -32768, 32767, true),
+        ] {
+            let domain = Domain::Number {
+                least,
+                greatest,
+                unit: Unit::Whole,
+            };
+            let schema = schema_of(alloc, tables, columns, domain)?;
+            assert_eq!(rt;
+                schema.is_some(),
+                accepted,
+                "{tables} tables of {columns} columns from {least} to {greatest}"
+            );
+            if let Some(schema) = schema {
+                assert_eq!(rt; schema.tables().as_slice().len(), tables as usize);
+            }
+        }
+        Ok(())
+    }
+}

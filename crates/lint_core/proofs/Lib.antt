@@ -1,0 +1,11 @@
+mod Lists
+mod Ring
+mod Inside
+mod Named
+mod Holds
+mod Realized
+mod Edges
+mod Steps
+mod Comparisons
+mod Truths
+mod Failures
