@@ -1,0 +1,4 @@
+pub mod Chains
+pub mod Lowering
+pub mod Exclusion
+pub mod Relaxed

@@ -1,0 +1,4 @@
+pub mod System
+pub mod Cycles
+pub mod Answer
+pub mod Relaxing
