@@ -1,0 +1,9 @@
+pub mod Stated
+pub mod Ring
+pub mod Branch
+pub mod Reading
+pub mod Row
+pub mod Refuted
+pub mod Cycle
+pub mod Judged
+pub mod Right

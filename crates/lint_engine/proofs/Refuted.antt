@@ -1,0 +1,119 @@
+-- The database of one row meets the schema, and the condition is true at its row.
+use Rattle.std.proofs.Common.{◌≡◌, ◌∙◌, sym, ap, refl, subst, ℕ, zero, suc, ◌+◌, ◌-◌, ◌<◌, length, ℤ, pos, ◌+ℤ◌, true, List, [], ◌∷◌, ◌++◌, map, replicate, arith}
+use Rattle.std.proofs.lemmas.Bool.{and_from, or_left, or_right, eq-eqb}
+use Rattle.std.proofs.lemmas.Option.{none-some, same_Some, slice_get_within}
+use Rattle.std.specs.Prelude.{Option, Some, slice_get, unwrap_or, nat_eq}
+use Rattle.std.specs.List.{AllByRecursion}
+use Rattle.lint_core.specs.declared.condition.Cond.{Cond, out-Cond, fold_out-Cond, map-Cond}
+use Rattle.lint_core.specs.declared.condition.Cond.TheVariants as cond
+use Rattle.lint_core.specs.declared.database.Value.TheVariants.{Int}
+use Rattle.lint_core.specs.declared.database.Truth.TheVariants.{True}
+use Rattle.lint_core.specs.declared.database.Row.{Row}
+use Rattle.lint_core.specs.declared.database.Database.{Database}
+use Rattle.lint_core.specs.declared.database.Counter.{Counter}
+use Rattle.lint_core.specs.declared.database.Points.TheVariants.{One}
+use Rattle.lint_core.specs.declared.query.Entry.{Entry}
+use Rattle.lint_core.specs.declared.query.Query.{Query}
+use Rattle.lint_core.specs.declared.query.Question.TheVariants.{Empty}
+use Rattle.lint_core.specs.declared.schema.Column.{Column}
+use Rattle.lint_core.specs.declared.schema.Table.{Table}
+use Rattle.lint_core.specs.FirstForm.{Conjunct, conjunct_cond, where_cond}
+use Rattle.lint_core.specs.Database.{rows_of}
+use Rattle.lint_core.specs.Condition.{cond_step, truth, Meaning}
+use Rattle.lint_core.specs.Comparison.{is_related}
+use Rattle.lint_core.specs.Truth.{and_of}
+use Rattle.lint_core.specs.Meets.{values_meet, rows_meet, tables_meet}
+use Rattle.lint_core.specs.Answer.{IsRefuted}
+use Rattle.lint_engine.specs.declared.comparison.Comparison.{Comparison}
+use Rattle.lint_engine.specs.Plan.{is_named, number_of, cells_of, one_row_in}
+use Rattle.lint_engine.proofs.Reading.{comparison_of_conjunct, comparisons_of, outs_conjunct}
+use Rattle.lint_engine.proofs.Row.{IsRelated, named_cell}
+
+-- ---- the database
+
+no_rows_meet : (ss : List Table) (n : ℕ) → n ≡ length ss → tables_meet ss (replicate n []) ≡ true
+no_rows_meet [] zero same = refl
+no_rows_meet [] (suc n) same = absurd (omega arith)
+no_rows_meet (s ∷ ss) zero same = absurd (omega arith)
+no_rows_meet (s ∷ ss) (suc n) same = no_rows_meet ss n (omega arith)
+
+rows_in_meet : (schema : List Table) (t n : ℕ) (table : Table) (rows : List Row) → slice_get schema t ≡ Some table → rows_meet table rows ≡ true → n + (t + 1) ≡ length schema → tables_meet schema (replicate t [] ++ rows ∷ replicate n []) ≡ true
+rows_in_meet [] t n table rows at meet count = absurd (none-some table at)
+rows_in_meet (s ∷ ss) zero n table rows at meet count =
+    let here : rows_meet s rows ≡ true = subst (λ (x : Table). rows_meet x rows ≡ true) (sym (same_Some s table at)) meet in
+    and_from (rows_meet s rows) (tables_meet ss (replicate n [])) here (no_rows_meet ss n (omega arith))
+rows_in_meet (s ∷ ss) (suc t) n table rows at meet count = rows_in_meet ss t n table rows at meet (omega arith)
+
+pub one_row_meets : (schema : List Table) (t : ℕ) (table : Table) (row : Row) → slice_get schema t ≡ Some table → values_meet table.columns row.values ≡ true → tables_meet schema (one_row_in (length schema) t row) ≡ true
+one_row_meets schema t table row at meet =
+    let within : t < length schema = slice_get_within schema t table at in
+    rows_in_meet schema t (length schema - (t + 1)) table (row ∷ []) at (and_from (values_meet table.columns row.values) true meet refl) (omega arith)
+
+slice_get_behind : {X : Type 0} (t : ℕ) (x y : X) (ys : List X) → slice_get (replicate t y ++ x ∷ ys) t ≡ Some x
+slice_get_behind zero x y ys = refl
+slice_get_behind (suc t) x y ys = slice_get_behind t x y ys
+
+-- ---- the condition
+
+named_again : (cs : List Comparison) (c : Comparison) → is_named (c ∷ cs) c.column ≡ true
+named_again cs c = or_left (nat_eq c.column c.column) (is_named cs c.column) (eq-eqb c.column c.column refl)
+
+-- each of the comparisons names its column
+abbrev AreNamed : List Comparison → List Comparison → Type 0
+AreNamed all cs = AllByRecursion (λ (c : Comparison). is_named all c.column ≡ true) cs
+
+named_more : (c : Comparison) (all cs : List Comparison) → AreNamed all cs → AreNamed (c ∷ all) cs
+named_more c all [] named = tt
+named_more c all (d ∷ cs) named = (or_right (nat_eq c.column d.column) (is_named all d.column) named.0, named_more c all cs named.1)
+
+all_named : (cs : List Comparison) → AreNamed cs cs
+all_named [] = tt
+all_named (c ∷ cs) = (named_again cs c, named_more c cs cs (all_named cs))
+
+module _ (db : Database) (t : ℕ) (row : Row) (rows : rows_of db t ≡ row ∷ []) where
+  abbrev entries : List (List ℕ)
+  entries = (t ∷ []) ∷ []
+
+  abbrev first : List (List ℕ)
+  first = (0 ∷ []) ∷ []
+
+  truth_out : (c : Cond) → truth db entries c first ≡ cond_step db entries (map-Cond Cond (Meaning db entries) (truth db entries) (out-Cond c)) first
+  truth_out c = ap (λ (m : Meaning db entries). m first) (fold_out-Cond (Meaning db entries) (cond_step db entries) c)
+
+  conjunct_true : (c : Conjunct) (n : ℤ) → slice_get row.values c.column ≡ Some (Int n) → is_related c.op (n +ℤ pos 0) c.literal ≡ true → truth db entries (conjunct_cond c) first ≡ True
+  conjunct_true c n at related =
+      truth_out (conjunct_cond c)
+      ∙ (ap (λ l. cond_step db entries (map-Cond Cond (Meaning db entries) (truth db entries) l) first) (outs_conjunct c)
+      ∙ rw (rows, at, related) refl)
+
+  module _ (values : List ℤ) (columns : List Column) (all : List Comparison) (cells : row.values ≡ cells_of values all 0 columns) where
+    one_true : (c : Conjunct) → c.column < length columns → is_named all c.column ≡ true → IsRelated values (comparison_of_conjunct c) → truth db entries (conjunct_cond c) first ≡ True
+    one_true c within named related = conjunct_true c (number_of values c.column) (rw cells (named_cell values all columns c.column within named)) related
+
+    all_true : (cs : List Conjunct) → AllByRecursion (λ (c : Conjunct). c.column < length columns) cs → AreNamed all (comparisons_of cs) → AllByRecursion (IsRelated values) (comparisons_of cs) → and_of (map (λ part. part first) (map (truth db entries) (map conjunct_cond cs))) ≡ True
+    all_true [] within named related = refl
+    all_true (c ∷ cs) within named related =
+        rw (one_true c within.0 named.0 related.0) (all_true cs within.1 named.1 related.1)
+
+    where_true : (cs : List Conjunct) → AllByRecursion (λ (c : Conjunct). c.column < length columns) cs → AreNamed all (comparisons_of cs) → AllByRecursion (IsRelated values) (comparisons_of cs) → truth db entries (where_cond cs) first ≡ True
+    where_true [] within named related = truth_out (where_cond []) ∙ ap (λ l. cond_step db entries (map-Cond Cond (Meaning db entries) (truth db entries) l) first) (cond.outs-And [])
+    where_true (c ∷ []) within named related = one_true c within.0 named.0 related.0
+    where_true (c ∷ next ∷ cs) within named related =
+        truth_out (where_cond (c ∷ next ∷ cs))
+        ∙ (ap (λ l. cond_step db entries (map-Cond Cond (Meaning db entries) (truth db entries) l) first) (cond.outs-And (map conjunct_cond (c ∷ next ∷ cs)))
+        ∙ all_true (c ∷ next ∷ cs) within named related)
+
+-- the question fails in the database
+pub is_refuted : (schema : List Table) (query : Query) (entry : Entry) (table : Table) (cs : List Conjunct) (values : List ℤ) (row : Row) (counter : Counter) →
+    query.block.entries ≡ entry ∷ [] → slice_get schema entry.table ≡ Some table → query.block.cond ≡ where_cond cs → AllByRecursion (λ (c : Conjunct). c.column < length table.columns) cs →
+    row.values ≡ cells_of values (comparisons_of cs) 0 table.columns → values_meet table.columns row.values ≡ true → AllByRecursion (IsRelated values) (comparisons_of cs) →
+    counter.database.tables ≡ one_row_in (length schema) entry.table row → counter.points ≡ One (record { levels = (0 ∷ []) ∷ [] }) → IsRefuted schema query Empty counter
+is_refuted schema query entry table cs values row counter entries at filter within cells meet related tables points =
+    let db = counter.database in
+    let rows : rows_of counter.database entry.table ≡ row ∷ [] =
+    ap (λ (ts : List (List Row)). unwrap_or (slice_get ts entry.table) []) tables ∙ ap (λ (o : Option (List Row)). unwrap_or o []) (slice_get_behind entry.table (row ∷ []) [] (replicate (length schema - (entry.table + 1)) [])) in
+    let true_there : truth counter.database ((entry.table ∷ []) ∷ []) (where_cond cs) ((0 ∷ []) ∷ []) ≡ True = where_true counter.database entry.table row rows values table.columns (comparisons_of cs) cells cs within (all_named (comparisons_of cs)) related in
+    record {
+      meets_schema = rw tables (one_row_meets schema entry.table table row at meet);
+      fails = rw (points, entries, filter, rows, true_there) refl;
+    }
