@@ -28,8 +28,8 @@ where_cond [] = And []
 where_cond (c ∷ []) = conjunct_cond c
 where_cond (c ∷ next ∷ cs) = And (map conjunct_cond (c ∷ next ∷ cs))
 
--- the query has one entry, of this table, and this WHERE of at most 4,096 comparisons, which names the
--- table's columns
+-- The query has one entry, of this table, and this WHERE, which names the table's columns. It has at most
+-- 4,096 tokens, and so fewer comparisons.
 pub record IsFirstForm (schema : List Table) (query : Query) (table : Table) (conjuncts : List Conjunct) : Type 0 where
   pub one_entry : (entry : Entry) × (query.block.entries ≡ entry ∷ []) × (slice_get schema entry.table ≡ Some table)
   pub filter : query.block.cond ≡ where_cond conjuncts

@@ -1,4 +1,5 @@
--- When a query fits a schema: every position in it exists.
+-- When a query fits a schema: every position in it exists. (A query that is read has at most 4,096 tokens,
+-- so no limit on the number of its conditions is needed here.)
 use Rattle.std.specs.Prelude.{ℕ, pos, Bool, true, false, ◌&&◌, List, length, Option, Some, None, slice_get, option_and_then, nat_lt, nat_le, is_some}
 use Rattle.std.specs.List.{list_all}
 use Rattle.std.specs.Ordering.{int_eq}

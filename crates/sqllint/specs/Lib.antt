@@ -4,3 +4,4 @@ pub mod RightRun
 pub mod Stops
 pub mod Status
 pub mod Written
+pub mod Reading

@@ -20,11 +20,6 @@ pub record IsAnswered (schema : List Table) (number : ℕ) (query : Query) (ques
   pub one : answers ≡ answer ∷ []
   pub right : IsRightAnswer schema query number 1 Empty answer
 
--- the result is this query, answered
-abbrev pub IsAnsweredRun : List Table → Query → QueryResult → Type 0
-IsAnsweredRun schema asked (Refused refusal) = ⊥
-IsAnsweredRun schema asked (Answered query questions answers) = (query ≡ asked) × IsAnswered schema 1 query questions answers
-
 -- a query is refused exactly where the text, which isn't blank, is no query of the schema
 abbrev pub IsRightResult : List Table → ℕ → List ℕ → QueryRun → QueryResult → Type 0
 IsRightResult schema number text run (Refused refusal) =

@@ -83,9 +83,10 @@ insert_lines [] rows = []
 insert_lines (table ∷ tables) [] = []
 insert_lines (table ∷ tables) (rows ∷ more) = texts (insert_line table) rows ++ insert_lines tables more
 
--- row places, from 1
+-- row places, from 1; a list of none is a dash
 unfoldable pub level_text : List ℕ → List ℕ
-level_text places = joined (codes ",") (λ place. decimal (place + 1)) places
+level_text [] = codes "-"
+level_text (place ∷ places) = joined (codes ",") (λ p. decimal (p + 1)) (place ∷ places)
 
 unfoldable pub places_text : List (List ℕ) → List ℕ
 places_text [] = codes "-"

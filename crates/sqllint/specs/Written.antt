@@ -1,9 +1,9 @@
 -- What a run has written when it ends, and that its stop has a cause.
-use Rattle.std.specs.Prelude.{ℕ, ◌≤◌, ◌≡◌, List, Option, Some, None, length, take}
+use Rattle.std.specs.Prelude.{ℕ, false, ◌≤◌, ◌≡◌, List, Option, Some, None, length, take}
 use Rattle.lint_base.specs.Counts.{Rose}
 use Rattle.lint_base.specs.Sink.{Appended}
 use Rattle.lint_core.specs.declared.run.Run.{Run}
-use Rattle.sqllint.specs.Stops.{Told, HasCause}
+use Rattle.sqllint.specs.Stops.{Told, HasCause, is_no_memory}
 use Rattle.sqllint.specs.Text.{run_text}
 use Rattle.sqllint.specs.Words.{Paths}
 use Rattle.sqllint.specs.declared.outcome.Stop.{Stop}
@@ -29,14 +29,17 @@ module _ (files : Option (List ℕ → Option (List ℕ))) (paths : Option Paths
   pub record IsCutShort (run : Run) : Type 0 where
     pub rose : Rose old.faults new.faults
     pub before_it : Option Stop
+    pub not_memory : is_no_memory before_it ≡ false
     pub cause : HasCause files paths before now run before_it
     pub count : ℕ
     pub part : count ≤ length (run_text before_it run)
     pub written : Appended old.contents new.contents (take count (run_text before_it run))
 
-  -- memory ran out: nothing was written, and what the run holds is right
+  -- memory ran out, in reading or in making the text of the run and of what stop it would have had: nothing
+  -- was written, and what the run holds is right
   pub record IsOutOfMemory (run : Run) : Type 0 where
-    pub cause : HasCause files paths before now run (Some stop.NoMemory)
+    pub before_it : Option Stop
+    pub cause : HasCause files paths before now run before_it
     pub nothing : new.contents ≡ old.contents
     pub no_fault : new.faults ≡ old.faults
 

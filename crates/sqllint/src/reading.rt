@@ -6,8 +6,9 @@ ghost use Rattle.lint_core.specs.FirstForm.{Conjunct, IsFirstForm};
 ghost use Rattle.lint_core.specs.Fits.{query_fits};
 ghost use Rattle.lint_core.specs.declared.query.Question.TheVariants.{Empty as empty_question};
 ghost use Rattle.sql_parse.specs.FirstQuery.{IsFirstQuery};
-ghost use Rattle.sqllint.specs.RightRun.{AreRightQueries, IsAnswered, IsAnsweredRun};
-ghost use Rattle.sqllint.specs.Stops.{stop_of, StopsAtSchema, StopsAtQueries, told, IsUnbegun, CountsStand, IsSchemaRead, AreQueriesRead, HasSchemaAlone, HasCauseAt};
+ghost use Rattle.sqllint.specs.RightRun.{AreRightQueries};
+ghost use Rattle.sqllint.specs.Reading.{stop_of, IsAnsweredRun};
+ghost use Rattle.sqllint.specs.Stops.{StopsAtSchema, StopsAtQueries, told, IsSchemaRead, AreQueriesRead};
 
 use lint_base::{Items, NoMemory, ReadStop, Shelf, TextStop, read_file};
 use lint_core::{Query, QueryResult, QueryRun, Question, Run, Schema};
@@ -81,9 +82,9 @@ fn stop_at(stop: ReadStop, which: Which) -> Stop
 /// Reads the schema.
 pub fn schema_at<H: Shelf>(alloc: Global, shelf: &mut H, path: &str) -> Result<Schema, Stop>
     ensures files { H.files shelf.new ≡ H.files shelf.old }
-    ensures read { IfOk result (λ schema. IsSchemaRead (H.files shelf.old) path.now schema
-        × CountsStand (told H.open_faults H.read_faults H.failed_path H.opened_path H.given shelf.old)
-                      (told H.open_faults H.read_faults H.failed_path H.opened_path H.given shelf.new)) }
+    ensures read { IfOk result (λ schema. IsSchemaRead (H.files shelf.old) path.now
+        (told H.open_faults H.read_faults H.failed_path H.opened_path H.given shelf.old)
+        (told H.open_faults H.read_faults H.failed_path H.opened_path H.given shelf.new) schema) }
     ensures stop { IfErr result (λ stop. StopsAtSchema (H.files shelf.old) path.now
         (told H.open_faults H.read_faults H.failed_path H.opened_path H.given shelf.old)
         (told H.open_faults H.read_faults H.failed_path H.opened_path H.given shelf.new) stop) }
@@ -106,9 +107,9 @@ pub fn queries_at<H: Shelf>(
     schema: &Schema,
 ) -> Result<Items<QueryRun>, Stop>
     ensures files { H.files shelf.new ≡ H.files shelf.old }
-    ensures read { IfOk result (λ queries. AreQueriesRead (H.files shelf.old) path.now schema.now queries
-        × CountsStand (told H.open_faults H.read_faults H.failed_path H.opened_path H.given shelf.old)
-                      (told H.open_faults H.read_faults H.failed_path H.opened_path H.given shelf.new)) }
+    ensures read { IfOk result (λ queries. AreQueriesRead (H.files shelf.old) path.now
+        (told H.open_faults H.read_faults H.failed_path H.opened_path H.given shelf.old)
+        (told H.open_faults H.read_faults H.failed_path H.opened_path H.given shelf.new) schema.now queries) }
     ensures stop { IfErr result (λ stop. StopsAtQueries (H.files shelf.old) path.now
         (told H.open_faults H.read_faults H.failed_path H.opened_path H.given shelf.old)
         (told H.open_faults H.read_faults H.failed_path H.opened_path H.given shelf.new) stop) }

@@ -247,7 +247,7 @@ fn push_level(out: &mut String, places: &[u32]) -> Result<(), AllocError>
             push_number(out, u64::from(*first) + 1)?;
             push_more_places(out, more)
         }
-        None => Ok(()),
+        None => push_text(out, "-"),
     }
 }
 
