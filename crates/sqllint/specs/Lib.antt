@@ -1,5 +1,6 @@
 pub mod Words
 pub mod Text
+pub mod Worked
 pub mod RightRun
 pub mod Stops
 pub mod Status

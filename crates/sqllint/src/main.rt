@@ -2,10 +2,12 @@
 //!
 //! What is proved stands on `program::run`, for every shelf and every sink. `host` is the trusted
 //! edge. Of `specs/` a reader must believe `Words`, `Text` (the bytes), `RightRun` (what a run says of
-//! the queries), `Stops` (when each stop comes), `Status` and `Written`.
+//! the queries), `Stops` (when each stop comes), `Status` and `Written`. `laws` proves of `Text` that
+//! four runs have the texts that are known by hand.
 #![tactic(auto)]
 
 mod host;
+mod laws;
 mod outcome;
 mod program;
 mod reading;

@@ -1,0 +1,71 @@
+-- Three runs whose texts are known by hand: a query that is empty, a query that is refused, and a schema
+-- that is refused.
+use Rattle.std.specs.Prelude.{ℕ, ℤ, pos, ◌≡◌, List, [], ◌∷◌, ◌++◌, Option, Some, None, codes, encode_utf8_all}
+use Rattle.lint_base.specs.declared.place.Span.{Span}
+use Rattle.lint_base.specs.declared.place.Fault.TheVariants.{NotBuilt}
+use Rattle.lint_base.specs.declared.place.Refusal.{Refusal}
+use Rattle.lint_core.specs.declared.schema.Table.{Table}
+use Rattle.lint_core.specs.declared.certificate.Step.TheVariants as step
+use Rattle.lint_core.specs.declared.certificate.SumEdge.TheVariants as edge
+use Rattle.lint_core.specs.declared.certificate.Cert.{Cert}
+use Rattle.lint_core.specs.declared.database.Value.TheVariants as value
+use Rattle.lint_core.specs.declared.database.Database.{Database}
+use Rattle.lint_core.specs.declared.database.Points.TheVariants.{One}
+use Rattle.lint_core.specs.declared.database.Counter.{Counter}
+use Rattle.lint_core.specs.declared.query.Query.{Query}
+use Rattle.lint_core.specs.declared.query.Question.TheVariants.{Empty}
+use Rattle.lint_core.specs.declared.run.Answer.{Answer}
+use Rattle.lint_core.specs.declared.run.Answer.TheVariants.{Always, NotAlways}
+use Rattle.lint_core.specs.declared.run.QueryResult.TheVariants.{Refused, Answered}
+use Rattle.lint_core.specs.declared.run.QueryRun.{QueryRun}
+use Rattle.lint_core.specs.declared.run.Run.{Run}
+use Rattle.sqllint.specs.declared.outcome.Stop.TheVariants as stop
+use Rattle.sqllint.specs.Text.{run_text}
+
+abbrev pub from_to : ℕ → ℕ → Span
+from_to from to = record { from = from; to = to }
+
+abbrev pub not_built : Span → Refusal
+not_built span = record { fault = NotBuilt; span = span; count = 0 }
+
+-- the one query of a run, answered
+abbrev pub answered : List Table → Query → Answer → Run
+answered schema query answer =
+    record { schema = schema; queries = record { span = query.block.span; result = Answered query (Empty ∷ []) (answer ∷ []) } ∷ [] }
+
+-- a > 5 AND a < 6
+abbrev pub contradiction : Cert
+contradiction =
+    record {
+      query = 1; question = 1; value = value.Null;
+      steps = step.Ex 0 ∷ step.And 1 ∷ step.Sum (edge.Fact 2 ∷ edge.Fact 3 ∷ []) ∷ [];
+    }
+
+-- one row, 6 and NULL
+abbrev pub six : Counter
+six =
+    record {
+      database = record { tables = (record { values = value.Int (pos 6) ∷ value.Null ∷ [] } ∷ []) ∷ [] };
+      points = One (record { levels = (0 ∷ []) ∷ [] });
+    }
+
+abbrev pub AlwaysText : Type 0
+AlwaysText =
+    (schema : List Table) (query : Query) → query.block.span ≡ from_to 0 37
+    → run_text None (answered schema query (Always contradiction))
+        ≡ codes "query 1 at 0..37\n  1 E1 at 0..37: always (finding)\n    proof [[\"ex\",0],[\"and\",1],[\"sum\",[[0,2],[0,3]]]]\n"
+
+abbrev pub NotAlwaysText : Type 0
+NotAlwaysText =
+    (table : Table) (query : Query) → encode_utf8_all table.name ≡ codes "T" → query.block.span ≡ from_to 0 37
+    → run_text None (answered (table ∷ []) query (NotAlways (six ∷ [])))
+        ≡ codes "query 1 at 0..37\n  1 E1 at 0..37: not always\n    database\n    INSERT INTO T VALUES (6, NULL);\n    at 1\n"
+
+abbrev pub RefusedText : Type 0
+RefusedText =
+    (schema : List Table)
+    → run_text None (record { schema = schema; queries = record { span = from_to 0 29; result = Refused (not_built (from_to 0 29)) } ∷ [] })
+        ≡ codes "query 1 at 0..29\n  refused 10 NotBuilt at 0..29\n"
+
+abbrev pub SchemaRefusedText : Type 0
+SchemaRefusedText = (run : Run) → run_text (Some (stop.SchemaRefused (not_built (from_to 0 36)))) run ≡ codes "stop SchemaRefused 10 NotBuilt at 0..36\n"
