@@ -11,5 +11,7 @@ mod comparison;
 mod counter;
 mod empty;
 mod inequality;
+#[cfg(test)]
+mod tests;
 
 pub use empty::judge_empty;
