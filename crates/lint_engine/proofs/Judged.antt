@@ -1,14 +1,12 @@
 -- What the judge knows when it has read a query of the first form, and why each of its answers is right.
-use Rattle.std.proofs.Common.{◌≡◌, ◌∙◌, sym, ap, refl, subst, ℕ, ◌+◌, ◌-◌, ◌*◌, ◌^◌, ◌<◌, ◌≤◌, length, ℤ, pos, neg_ℤ, ◌+ℤ◌, ◌-ℤ◌, ◌≤ℤ◌, true, ◌&&◌, ◌||◌, inl, inr, List, [], ◌∷◌, get_or, arith}
+use Rattle.std.proofs.Common.{◌≡◌, ◌∙◌, sym, ap, refl, subst, ℕ, ◌+◌, ◌*◌, ◌^◌, ◌<◌, ◌≤◌, length, ℤ, pos, neg_ℤ, ◌+ℤ◌, ◌-ℤ◌, ◌≤ℤ◌, true, List, [], ◌∷◌, get_or, arith}
 use Rattle.std.proofs.lemmas.Int.{ints}
-use Rattle.std.proofs.lemmas.Bool.{and_parts, or_cases}
-use Rattle.std.proofs.lemmas.Bool.Decides.{Decides-int_eq}
+use Rattle.std.proofs.lemmas.Bool.{and_parts}
 use Rattle.std.proofs.lemmas.List.{length-append}
 use Rattle.std.proofs.lemmas.List.Elements.{recursion_from_All}
 use Rattle.std.proofs.lemmas.Option.{get_or_from_slice_get}
 use Rattle.std.specs.Prelude.{Some, slice_get}
 use Rattle.std.specs.List.{AllByRecursion, list_all}
-use Rattle.std.specs.Ordering.{int_eq}
 use Rattle.lint_core.specs.declared.condition.Op.{Op}
 use Rattle.lint_core.specs.declared.condition.Op.TheVariants.{Eq, Lt, Le, Gt, Ge}
 use Rattle.lint_core.specs.declared.query.Entry.{Entry}
@@ -17,7 +15,7 @@ use Rattle.lint_core.specs.declared.schema.Column.{Column}
 use Rattle.lint_core.specs.declared.schema.Domain.{Domain}
 use Rattle.lint_core.specs.declared.schema.Domain.TheVariants.{Number}
 use Rattle.lint_core.specs.declared.schema.Table.{Table}
-use Rattle.lint_core.specs.Schema.{is_schema, is_domain, is_signed_range}
+use Rattle.lint_core.specs.Schema.{is_schema, is_domain}
 use Rattle.lint_core.specs.FirstForm.{Conjunct, where_cond, IsFirstForm}
 use Rattle.diff_bounds.specs.declared.system.Edge.{Edge}
 use Rattle.diff_bounds.specs.System.{IsAmong, IsModerate}
@@ -25,6 +23,7 @@ use Rattle.lint_engine.specs.declared.comparison.Comparison.{Comparison}
 use Rattle.lint_engine.specs.declared.inequality.Inequality.{Inequality}
 use Rattle.lint_engine.specs.Plan.{comparisons_in, IsNumber, of_domain, of_domains, of_comparison, of_comparisons, parts_after, edges_of}
 use Rattle.lint_engine.proofs.Branch.{all_append}
+use Rattle.lint_engine.proofs.Domains.{domain_numbers}
 use Rattle.lint_engine.proofs.Reading.{comparisons_of, reads_all}
 
 -- ---- what was read
@@ -106,23 +105,6 @@ comparisons_among_all n fact parts (c ∷ cs) exist =
     all_append (EdgeIsAmong (n + 1)) (of_comparison fact parts c.column c.literal c.op) (of_comparisons (fact + 1) (parts_after parts c.op) (comparisons_of cs))
     (let within : c.column + 1 < n + 1 = omega (arith, exist.0) in comparison_among c.op (n + 1) fact parts c.column c.literal within)
     (comparisons_among_all n (fact + 1) (parts_after parts c.op) cs exist.1)
-
-range_moderate : (n : ℕ) (least greatest : ℤ) → n ≤ 2 ^ 63 → (int_eq least (neg_ℤ (pos n)) && int_eq greatest (pos (n - 1))) ≡ true → IsNumber least × IsNumber greatest
-range_moderate n least greatest small range =
-    let both = and_parts (int_eq least (neg_ℤ (pos n))) (int_eq greatest (pos (n - 1))) range in
-    let least_is : least ≡ neg_ℤ (pos n) = (Decides-int_eq least (neg_ℤ (pos n))).0 both.0 in
-    let greatest_is : greatest ≡ pos (n - 1) = (Decides-int_eq greatest (pos (n - 1))).0 both.1 in
-    (record { low = omega (arith, ints); high = omega (arith, ints) }, record { low = omega (arith, ints); high = omega (arith, ints) })
-
-domain_numbers : (least greatest : ℤ) → (is_signed_range 16 least greatest || is_signed_range 32 least greatest || is_signed_range 64 least greatest) ≡ true → IsNumber least × IsNumber greatest
-domain_numbers least greatest known =
-    elim (or_cases (is_signed_range 16 least greatest || is_signed_range 32 least greatest) (is_signed_range 64 least greatest) known) [
-      | inl short ↦ elim (or_cases (is_signed_range 16 least greatest) (is_signed_range 32 least greatest) short) [
-        | inl small ↦ range_moderate (2 ^ 15) least greatest (omega arith) small
-        | inr middle ↦ range_moderate (2 ^ 31) least greatest (omega arith) middle
-      ]
-      | inr long ↦ range_moderate (2 ^ 63) least greatest (omega arith) long
-    ]
 
 moderate : (l r : ℕ) (most : ℤ) → (neg_ℤ (pos (2 ^ 64))) ≤ℤ most → most ≤ℤ pos (2 ^ 64) → IsModerate (record { left = l; right = r; most = most })
 moderate l r most low high = record { low = omega (arith, ints); high = omega (arith, ints) }

@@ -1,3 +1,4 @@
+pub mod Domains
 pub mod Stated
 pub mod Ring
 pub mod Branch
@@ -7,3 +8,4 @@ pub mod Refuted
 pub mod Cycle
 pub mod Judged
 pub mod Right
+pub mod Small

@@ -36,7 +36,7 @@ use Rattle.lint_engine.proofs.Cycle.{all_one_zero, cycle_contradicts, cycle_of_t
 use Rattle.lint_engine.proofs.Judged.{IsRead, EdgeIsAmong, edges_all, edges_back, domains_among, comparisons_among_all, domains_moderate, comparisons_moderate, domains_few, comparisons_few}
 use Rattle.lint_engine.proofs.Reading.{comparisons_of, sentence_is}
 use Rattle.lint_engine.proofs.Refuted.{is_refuted}
-use Rattle.lint_engine.proofs.Ring.{all_at}
+use Rattle.lint_engine.proofs.Domains.{all_at}
 use Rattle.lint_engine.proofs.Stated.{IsStated}
 use Rattle.lint_engine.proofs.Row.{all_parts, IsSatisfied, IsRelated, are_near, cells_meet, all_related}
 

@@ -1,12 +1,10 @@
 -- Two inequalities that close a ring with a negative sum contradict each other.
-use Rattle.std.proofs.Common.{◌≡◌, ◌∙◌, sym, ap, refl, subst, ℕ, zero, suc, ◌<◌, ◌-◌, ◌^◌, length, ℤ, pos, ◌+ℤ◌, ◌<ℤ◌, ◌≤ℤ◌, neg_ℤ, Bool, true, ◌&&◌, ◌||◌, inl, inr, List, [], ◌∷◌, arith}
+use Rattle.std.proofs.Common.{◌≡◌, ◌∙◌, sym, ap, refl, subst, ℕ, length, pos, ◌+ℤ◌, ◌<ℤ◌, ◌≤ℤ◌, neg_ℤ, true, List, [], ◌∷◌, arith}
 use Rattle.std.proofs.lemmas.Int.{ints}
-use Rattle.std.proofs.lemmas.Bool.{and_from, and_parts, eq-eqb, or_cases}
-use Rattle.std.proofs.lemmas.Bool.Decides.{Decides-int_eq}
+use Rattle.std.proofs.lemmas.Bool.{and_from, and_parts, eq-eqb}
 use Rattle.std.proofs.lemmas.Option.{same_Some, none-some, option_and_then_some}
 use Rattle.std.specs.Prelude.{Option, Some, None, slice_get, option_and_then, nat_eq, nat_le, int_lt}
 use Rattle.std.specs.List.{list_all}
-use Rattle.std.specs.Ordering.{int_eq}
 use Rattle.lint_core.specs.declared.certificate.SumEdge.{SumEdge}
 use Rattle.lint_core.specs.declared.certificate.SumEdge.TheVariants as edge
 use Rattle.lint_core.specs.declared.formula.Side.{Side}
@@ -15,44 +13,15 @@ use Rattle.lint_core.specs.declared.schema.Domain.{Domain}
 use Rattle.lint_core.specs.declared.schema.Domain.TheVariants.{Number}
 use Rattle.lint_core.specs.declared.schema.Column.{Column}
 use Rattle.lint_core.specs.declared.schema.Table.{Table}
-use Rattle.lint_core.specs.Schema.{is_schema, is_table, is_domain, is_signed_range}
+use Rattle.lint_core.specs.Schema.{is_schema, is_table, is_domain}
 use Rattle.lint_core.specs.Certificate.{Branch, Bound, bound_of, bounds_of, domain_at, low_bound, high_bound, is_same_side, is_guarded, is_negative_ring, is_contradiction}
 use Rattle.lint_engine.specs.declared.inequality.Inequality.{Inequality}
+use Rattle.lint_engine.proofs.Domains.{IsOrderly, domain_orderly, all_at}
 use Rattle.lint_engine.proofs.Stated.{side_of_variable, IsStated}
 
 pub same_side : (a : Side) → is_same_side a a ≡ true
 same_side side.Zero = refl
 same_side (side.Cell row column) = and_from (nat_eq row row) (nat_eq column column) (eq-eqb row row refl) (eq-eqb column column refl)
-
--- the bounds of a domain are in order
-abbrev IsOrderly : Domain → Type 0
-IsOrderly (Number least greatest unit) = least ≤ℤ greatest
-
-range_orderly : (n : ℕ) (least greatest : ℤ) → (int_eq least (neg_ℤ (pos n)) && int_eq greatest (pos (n - 1))) ≡ true → 0 < n → least ≤ℤ greatest
-range_orderly n least greatest range some =
-    let both = and_parts (int_eq least (neg_ℤ (pos n))) (int_eq greatest (pos (n - 1))) range in
-    let low : least ≡ neg_ℤ (pos n) = (Decides-int_eq least (neg_ℤ (pos n))).0 both.0 in
-    let high : greatest ≡ pos (n - 1) = (Decides-int_eq greatest (pos (n - 1))).0 both.1 in
-    omega (arith, ints)
-
-pub domain_orderly : (d : Domain) → is_domain d ≡ true → IsOrderly d
-domain_orderly (Number least greatest unit) known =
-    elim (or_cases (is_signed_range 16 least greatest || is_signed_range 32 least greatest) (is_signed_range 64 least greatest) known) [
-      | inl short ↦ elim (or_cases (is_signed_range 16 least greatest) (is_signed_range 32 least greatest) short) [
-        | inl small ↦ range_orderly (2 ^ 15) least greatest small (omega arith)
-        | inr middle ↦ range_orderly (2 ^ 31) least greatest middle (omega arith)
-      ]
-      | inr long ↦ range_orderly (2 ^ 63) least greatest long (omega arith)
-    ]
-
-pub all_at : {X : Type 0} (p : X → Bool) (xs : List X) (k : ℕ) (x : X) → list_all p xs ≡ true → slice_get xs k ≡ Some x → p x ≡ true
-all_at p [] k x all at = absurd (none-some x at)
-all_at p (y ∷ ys) zero x all at =
-    let both = and_parts (p y) (list_all p ys) all in
-    subst (λ z. p z ≡ true) (same_Some y x at) both.0
-all_at p (y ∷ ys) (suc k) x all at =
-    let both = and_parts (p y) (list_all p ys) all in
-    all_at p ys k x both.1 at
 
 -- every domain of the schema's tables is orderly
 domain_at_orderly : (schema : List Table) (branch : Branch) (row column : ℕ) → is_schema schema ≡ true → (d : Domain) → domain_at schema branch row column ≡ Some d → IsOrderly d

@@ -1,22 +1,22 @@
 -- Values that satisfy every inequality make a row of the table at which every comparison is true.
-use Rattle.std.proofs.Common.{◌≡◌, ◌∙◌, ap, refl, subst, ℕ, zero, suc, ◌+◌, ◌-◌, ◌^◌, ◌<◌, ◌≤◌, length, ℤ, pos, neg_ℤ, ◌+ℤ◌, ◌-ℤ◌, ◌≤ℤ◌, true, ◌&&◌, ◌||◌, inl, inr, List, [], ◌∷◌, ◌++◌, arith}
+use Rattle.std.proofs.Common.{◌≡◌, ◌∙◌, ap, refl, subst, ℕ, zero, suc, ◌+◌, ◌<◌, length, ℤ, pos, neg_ℤ, ◌+ℤ◌, ◌-ℤ◌, ◌≤ℤ◌, true, List, [], ◌∷◌, ◌++◌, arith}
 use Rattle.std.proofs.lemmas.Int.{ints}
-use Rattle.std.proofs.lemmas.Bool.{and_from, and_parts, or_cases, cond_both}
+use Rattle.std.proofs.lemmas.Bool.{and_from, and_parts, cond_both}
 use Rattle.std.proofs.lemmas.Bool.Decides.{Decides-int_eq}
 use Rattle.std.specs.Prelude.{Some, slice_get, int_lt}
 use Rattle.std.specs.List.{AllByRecursion, list_all}
-use Rattle.std.specs.Ordering.{int_eq}
 use Rattle.lint_core.specs.declared.condition.Op.{Op}
 use Rattle.lint_core.specs.declared.condition.Op.TheVariants.{Eq, Lt, Le, Gt, Ge}
 use Rattle.lint_core.specs.declared.database.Value.TheVariants.{Null, Int}
 use Rattle.lint_core.specs.declared.schema.Column.{Column}
 use Rattle.lint_core.specs.declared.schema.Domain.{Domain}
 use Rattle.lint_core.specs.declared.schema.Domain.TheVariants.{Number}
-use Rattle.lint_core.specs.Schema.{is_domain, is_signed_range}
+use Rattle.lint_core.specs.Schema.{is_domain}
 use Rattle.lint_core.specs.Domain.{int_le, is_in_domain}
 use Rattle.lint_core.specs.Meets.{values_meet}
 use Rattle.lint_core.specs.Comparison.{is_related}
 use Rattle.diff_bounds.specs.System.{Holds, value_in}
+use Rattle.lint_engine.proofs.Domains.{domain_numbers}
 use Rattle.lint_engine.specs.declared.comparison.Comparison.{Comparison}
 use Rattle.lint_engine.specs.declared.inequality.Inequality.{Inequality}
 use Rattle.lint_engine.specs.Plan.{of_domain, of_domains, of_comparison, of_comparisons, parts_after, is_named, number_of, IsNumber, AreNear, cell_of, cells_of}
@@ -59,26 +59,14 @@ module _ (values : List ℤ) where
       and_from (is_in_domain c.domain (cell_of values comparisons column)) (values_meet cs (cells_of values comparisons (column + 1) cs))
       (cell_in_domain comparisons column c.domain both.0) (cells_meet comparisons (column + 1) cs both.1)
 
-  near_in : (column n : ℕ) (least greatest : ℤ) → n ≤ 2 ^ 63 → (int_eq least (neg_ℤ (pos n)) && int_eq greatest (pos (n - 1))) ≡ true → least ≤ℤ number_of values column → number_of values column ≤ℤ greatest → IsNumber (number_of values column)
-  near_in column n least greatest small range low high =
-      let both = and_parts (int_eq least (neg_ℤ (pos n))) (int_eq greatest (pos (n - 1))) range in
-      let least_is : least ≡ neg_ℤ (pos n) = (Decides-int_eq least (neg_ℤ (pos n))).0 both.0 in
-      let greatest_is : greatest ≡ pos (n - 1) = (Decides-int_eq greatest (pos (n - 1))).0 both.1 in
-      record { low = omega (arith, ints); high = omega (arith, ints) }
-
   domain_near : (column : ℕ) (d : Domain) → is_domain d ≡ true → AllByRecursion IsSatisfied (of_domain column d) → IsNumber (number_of values column)
   domain_near column (Number least greatest unit) known all =
       let low : value_in values 0 ≤ℤ (value_in values (column + 1) +ℤ neg_ℤ least) = all.0 in
       let high : value_in values (column + 1) ≤ℤ (value_in values 0 +ℤ greatest) = all.1.0 in
-      let low_is : least ≤ℤ number_of values column = omega (arith, ints) in
-      let high_is : number_of values column ≤ℤ greatest = omega (arith, ints) in
-      elim (or_cases (is_signed_range 16 least greatest || is_signed_range 32 least greatest) (is_signed_range 64 least greatest) known) [
-        | inl short ↦ elim (or_cases (is_signed_range 16 least greatest) (is_signed_range 32 least greatest) short) [
-          | inl small ↦ near_in column (2 ^ 15) least greatest (omega arith) small low_is high_is
-          | inr middle ↦ near_in column (2 ^ 31) least greatest (omega arith) middle low_is high_is
-        ]
-        | inr long ↦ near_in column (2 ^ 63) least greatest (omega arith) long low_is high_is
-      ]
+      let both = domain_numbers least greatest known in
+      let least_is : IsNumber least = both.0 in
+      let greatest_is : IsNumber greatest = both.1 in
+      record { low = omega (arith, ints); high = omega (arith, ints) }
 
   domains_near : (column : ℕ) (cs : List Column) → list_all (λ (c : Column). is_domain c.domain) cs ≡ true → AllByRecursion IsSatisfied (of_domains column cs) → (k : ℕ) → k < length cs → IsNumber (number_of values (column + k))
   domains_near column [] known all k within = absurd (omega arith)

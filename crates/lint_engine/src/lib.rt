@@ -3,7 +3,8 @@
 //!
 //! The layer above may use `judge_empty`. Of `specs/` a reader must believe nothing: `Plan` says
 //! what the functions build, and the contract of the judge, by `IsRightAnswer` of `lint_core`, says
-//! that it is right.
+//! that it is right. A body that always answers `NoMemory` would meet that contract too, since no
+//! contract can say how much memory is left: the tests show that there are answers.
 #![tactic(auto)]
 
 mod certificate;
@@ -11,5 +12,7 @@ mod comparison;
 mod counter;
 mod empty;
 mod inequality;
+#[cfg(test)]
+mod tests;
 
 pub use empty::judge_empty;
