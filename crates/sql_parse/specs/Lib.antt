@@ -4,3 +4,5 @@ pub mod Reserved
 pub mod FirstSchema
 pub mod FirstQuery
 pub mod Refused
+pub mod Lexing
+pub mod Seen

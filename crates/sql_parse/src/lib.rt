@@ -1,7 +1,11 @@
-//! The readers of the first form: a schema of one table of number columns, and a query of that table
-//! whose WHERE is a conjunction of comparisons.
+//! The two readers of the first form: a schema of one table, and a query of one table with a WHERE of
+//! comparisons joined by AND. A text of another form is refused as a whole.
 //!
-//! The layer above may use `read_first_schema` and `read_first_query`. Of `specs/` a reader must believe
-//! `Tokens` (how tokens are spelled), `Reserved`, `FirstSchema` and `FirstQuery` (which texts have the
-//! form, and what they stand for) and `Blank` (white space, and the place of a refused text).
+//! The layer above may use `read_first_schema` and `read_first_query`. Of `specs/` a reader must
+//! believe the grammar: `Blank`, `Tokens`, `Reserved`, `FirstSchema`, `FirstQuery` and `Refused`.
+//! `Lexing` only retells the code; `proofs/` shows that it follows the grammar.
 #![tactic(auto)]
+
+mod blank;
+mod lex;
+mod token;
