@@ -3,3 +3,10 @@ pub mod Spelling
 pub mod Founds
 pub mod Steps
 pub mod Scan
+pub mod Texts
+pub mod Splitting
+pub mod EachPart
+pub mod Marks
+pub mod Pieces
+pub mod SchemaForm
+pub mod SchemaLaws

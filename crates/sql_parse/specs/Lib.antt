@@ -6,3 +6,4 @@ pub mod FirstQuery
 pub mod Refused
 pub mod Lexing
 pub mod Seen
+pub mod Parsing

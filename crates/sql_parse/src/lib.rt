@@ -8,4 +8,9 @@
 
 mod blank;
 mod lex;
+mod parts;
+mod refused;
+mod schema;
 mod token;
+
+pub use schema::read_first_schema;
