@@ -1,13 +1,12 @@
 -- The token that is found at the front of a text is the one of the grammar.
-use Rattle.std.proofs.Common.{◌≡◌, ◌≤◌, ◌<◌, ◌+◌, ◌-◌, ℕ, zero, suc, Bool, true, false, cond, not, ◌&&◌, ◌||◌, leb, eqb, List, [], ◌∷◌, ◌++◌, length, take, drop, map, Option, Some, None, option_and_then, refl, sym, ap, subst, ◌∙◌, arith, inl, inr, ◌⊎◌, codes}
+use Rattle.std.proofs.Common.{◌≡◌, ◌≤◌, ◌<◌, ℕ, suc, Bool, true, false, cond, ◌||◌, eqb, List, [], ◌∷◌, ◌++◌, length, take, drop, map, Option, Some, None, option_and_then, refl, sym, ap, subst, ◌∙◌, arith, inl, inr, ◌⊎◌}
 use Rattle.std.specs.List.{list_all}
-use Rattle.std.proofs.lemmas.Bool.{eqb-true, or_left, or_right, not-true, leb-true, leb-false, lt-leb, le-leb, and_parts, or_parts, or_cases}
+use Rattle.std.proofs.lemmas.Bool.{eqb-true, or_left, not-true, le-leb, and_parts, or_parts}
 use Rattle.std.proofs.lemmas.Bool.Decides.{nat_tests}
-use Rattle.std.proofs.lemmas.List.{length-take-le, take_at, drop_at}
-use Rattle.lint_core.specs.declared.condition.Op.{Op}
+use Rattle.std.proofs.lemmas.List.{length-take-le, take_at}
 use Rattle.lint_core.specs.declared.condition.Op.TheVariants.{Eq, Lt, Le, Gt, Ge}
 use Rattle.sql_parse.specs.Blank.{is_white}
-use Rattle.sql_parse.specs.Tokens.{is_letter, is_digit, goes_on_word, upper, decimal_value, Kind, Word, Number, Open, Close, Comma, Semicolon, Minus, Compare, IsSpelling, ends_before, begins_without, sign_of}
+use Rattle.sql_parse.specs.Tokens.{is_letter, is_digit, goes_on_word, upper, decimal_value, Kind, Word, Number, Open, Close, Comma, Semicolon, Minus, Compare, IsSpelling, ends_before, begins_without}
 use Rattle.sql_parse.specs.Lexing.{front_len, Found, found, word_found, within_limit, number_found, less_found, greater_found, sign_at, first_found}
 use Rattle.sql_parse.proofs.Front.{front_len-le, front_passes, front_stops, front_of}
 use Rattle.sql_parse.proofs.Spelling.{limit_is, limit_le}

@@ -1,6 +1,6 @@
 -- How far a test passes from the front of a text on.
-use Rattle.std.proofs.Common.{◌≡◌, ◌≤◌, ◌<◌, ◌+◌, ℕ, zero, suc, Bool, true, false, cond, not, ltb, ◌&&◌, List, [], ◌∷◌, ◌++◌, length, take, drop, reverse, Option, Some, None, refl, sym, ap, subst, ◌∙◌, arith, add-one, position, unwrap_or, inl, inr}
-use Rattle.std.specs.List.{position_or_len, prefix_len, list_all}
+use Rattle.std.proofs.Common.{◌≡◌, ◌≤◌, ◌+◌, ℕ, suc, Bool, true, false, cond, not, ◌&&◌, List, [], ◌∷◌, ◌++◌, length, take, drop, reverse, Some, None, refl, sym, ap, ◌∙◌, arith, position, unwrap_or, inl, inr}
+use Rattle.std.specs.List.{position_or_len, list_all}
 use Rattle.std.proofs.lemmas.Bool.{lt-ltb, le-ltb, cases_lt, and_parts, not-true}
 use Rattle.std.proofs.lemmas.List.{length-reverse, drop_all}
 use Rattle.sql_parse.specs.Blank.{is_white, leading_white, is_blank}

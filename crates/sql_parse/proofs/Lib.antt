@@ -10,3 +10,8 @@ pub mod Marks
 pub mod Pieces
 pub mod SchemaForm
 pub mod SchemaLaws
+pub mod Positions
+pub mod Numbers
+pub mod QueryForm
+pub mod QueryWhole
+pub mod QueryLaws

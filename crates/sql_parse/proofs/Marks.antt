@@ -1,14 +1,11 @@
 -- What the readers of single tokens take, and that they take it.
-use Rattle.std.proofs.Common.{◌≡◌, ◌≤◌, ◌<◌, ◌+◌, ℕ, zero, suc, Bool, true, false, cond, List, [], ◌∷◌, ◌++◌, length, map, Option, Some, None, option_map, option_and_then, unwrap_or, refl, sym, ap, subst, ◌∙◌, arith, inl, inr, codes}
-use Rattle.std.specs.List.{slice_split, onto_first}
-use Rattle.std.specs.Str.{bytes_eq}
+use Rattle.std.proofs.Common.{◌≡◌, ℕ, Bool, true, false, cond, List, [], ◌∷◌, ◌++◌, map, Option, Some, None, option_map, refl, sym, ap, ◌∙◌, inl, inr, codes}
 use Rattle.std.proofs.lemmas.Slice.Eq.{bytes_eq-Decides}
-use Rattle.std.proofs.lemmas.List.{append-nil, map-append}
 use Rattle.sql_parse.specs.declared.token.Mark.{Mark}
 use Rattle.sql_parse.specs.declared.token.Mark.TheVariants as mark
 use Rattle.sql_parse.specs.Tokens.{Token, Kind, Word, Number, Open, Close, Comma, Semicolon, Minus, Compare}
 use Rattle.sql_parse.specs.Reserved.{is_reserved}
-use Rattle.sql_parse.specs.Parsing.{◌>>=◌, is_word, is_open, is_close, is_comma, is_semicolon, is_mark, word_of, name_of, after, before, first, pieces}
+use Rattle.sql_parse.specs.Parsing.{is_word, is_open, is_close, is_comma, is_semicolon, is_mark, word_of, name_of, after, before, first}
 use Rattle.sql_parse.proofs.Founds.{chosen}
 use Rattle.sql_parse.proofs.Splitting.{before_last}
 use Rattle.sql_parse.proofs.EachPart.{bind_some}

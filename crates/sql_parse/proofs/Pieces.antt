@@ -1,6 +1,7 @@
 -- The parts between joints, and the list from its parts.
-use Rattle.std.proofs.Common.{◌≡◌, ℕ, zero, suc, Bool, true, false, cond, List, [], ◌∷◌, ◌++◌, length, map, refl, sym, ap, subst, ◌∙◌, inl, inr}
-use Rattle.std.specs.List.{slice_split, onto_first}
+use Rattle.std.proofs.Common.{◌≡◌, Bool, true, not, List, [], ◌∷◌, ◌++◌, refl, ap, ◌∙◌, inl, inr}
+use Rattle.std.specs.List.{slice_split, onto_first, list_all}
+use Rattle.std.proofs.lemmas.Bool.{and_parts, not-true}
 use Rattle.sql_parse.proofs.Founds.{chosen}
 
 onto_some : {X : Type 0} (x : X) (parts : List (List X)) → onto_first x parts ≡ [] → ⊥
@@ -67,3 +68,17 @@ split_more p (x ∷ xs) a b ps e =
       | inl q ↦ record { joint = x; rest = xs; form = ap (λ (ys : List _). ys ++ x ∷ xs) (nil_is a (slice_split p xs) (b ∷ ps) q.1); passes = q.0; behind = tail_is _ _ _ _ q.1 }
       | inr q ↦ onto_more p x xs a b ps (slice_split p xs) (split_some p xs) again q.1
     ]
+
+-- where there is no joint, there is one part
+pub split_none : {X : Type 0} (p : X → Bool) (xs : List X) → list_all (λ x. not (p x)) xs ≡ true → slice_split p xs ≡ xs ∷ []
+split_none p [] e = refl
+split_none p (x ∷ xs) e =
+    let parts = and_parts (not (p x)) (list_all (λ x. not (p x)) xs) e in
+    rw (not-true (p x) parts.0, split_none p xs parts.1) refl
+
+-- the first part ends at the first joint
+pub split_at : {X : Type 0} (p : X → Bool) (xs : List X) (y : X) (ys : List X) → list_all (λ x. not (p x)) xs ≡ true → p y ≡ true → slice_split p (xs ++ y ∷ ys) ≡ xs ∷ slice_split p ys
+split_at p [] y ys e passes = rw passes refl
+split_at p (x ∷ xs) y ys e passes =
+    let parts = and_parts (not (p x)) (list_all (λ x. not (p x)) xs) e in
+    rw (not-true (p x) parts.0, split_at p xs y ys parts.1 passes) refl

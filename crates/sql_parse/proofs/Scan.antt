@@ -1,12 +1,11 @@
 -- The loop of the lexer, over plain variables.
-use Rattle.std.proofs.Common.{◌≡◌, ◌≢◌, ◌≤◌, ◌<◌, ◌+◌, ◌-◌, ℕ, List, [], ◌∷◌, ◌++◌, length, take, drop, Option, Some, None, option_map, refl, sym, ap, subst, ◌∙◌, arith}
+use Rattle.std.proofs.Common.{◌≡◌, ◌≢◌, ◌≤◌, ◌<◌, ◌+◌, ◌-◌, ℕ, List, [], ◌∷◌, ◌++◌, length, take, drop, Option, Some, None, option_map, sym, ap, subst, ◌∙◌, arith}
 use Rattle.std.proofs.lemmas.List.{take_rest, drop-drop, length-drop, map_push}
-use Rattle.lint_base.specs.declared.place.Span.{Span}
 use Rattle.sql_parse.specs.declared.token.Token.{Token as CodeToken}
 use Rattle.sql_parse.specs.declared.lex.Lexeme.{Lexeme}
 use Rattle.sql_parse.specs.Blank.{leading_white}
 use Rattle.sql_parse.specs.Tokens.{Token}
-use Rattle.sql_parse.specs.Lexing.{Found, first_found, IsLexed, SpellsNothing}
+use Rattle.sql_parse.specs.Lexing.{first_found, IsLexed, SpellsNothing}
 use Rattle.sql_parse.specs.Seen.{seen, seen_lexeme, all_seen}
 use Rattle.sql_parse.proofs.Front.{leading_white-le}
 use Rattle.sql_parse.proofs.Founds.{found_takes}

@@ -1,20 +1,20 @@
 -- What is read as a table is a schema of the first form, and what has the form is read.
-use Rattle.std.proofs.Common.{◌≡◌, ◌≤◌, ◌<◌, ◌+◌, ℕ, zero, suc, Bool, true, false, cond, not, ◌&&◌, leb, List, [], ◌∷◌, ◌++◌, length, map, Option, Some, None, option_map, option_and_then, unwrap_or, refl, sym, ap, subst, ◌∙◌, arith, inl, inr, codes, append_assoc}
-use Rattle.std.specs.List.{slice_split, onto_first, list_all}
+use Rattle.std.proofs.Common.{◌≡◌, ◌≤◌, ◌<◌, ℕ, Bool, true, false, not, leb, List, [], ◌∷◌, ◌++◌, length, map, Option, Some, None, option_and_then, unwrap_or, refl, sym, ap, subst, ◌∙◌, arith, inl, inr, codes, append_assoc}
+use Rattle.std.specs.List.{list_all}
 use Rattle.std.proofs.lemmas.Bool.{and_parts, and_from, leb-true, le-leb, not_from_false, not-true}
 use Rattle.std.proofs.lemmas.List.{append-nil, map-append, length-map, nil_from_length}
 use Rattle.lint_core.specs.declared.schema.Domain.{Domain}
 use Rattle.lint_core.specs.declared.schema.Column.{Column}
 use Rattle.lint_core.specs.declared.schema.Table.{Table}
 use Rattle.sql_parse.specs.declared.token.Mark.TheVariants as mark
-use Rattle.sql_parse.specs.Tokens.{Token, Kind, Word, Number, Open, Close, Comma, Semicolon, Spells}
+use Rattle.sql_parse.specs.Tokens.{Token, Kind, Word, Open, Close, Comma, Semicolon, Spells}
 use Rattle.sql_parse.specs.Reserved.{is_reserved}
-use Rattle.sql_parse.specs.FirstSchema.{WrittenColumn, domain_of, columns_of, column_kinds, ending, schema_kinds, differ, IsFirstSchema}
+use Rattle.sql_parse.specs.FirstSchema.{WrittenColumn, domain_of, columns_of, column_kinds, ending, differ, IsFirstSchema}
 use Rattle.sql_parse.specs.Parsing.{◌>>=◌, is_mark, word_of, name_of, after, before, first, without_ending, pieces, all_read, column_read, differing, few_read, table_parts, table_read}
 use Rattle.sql_parse.proofs.Founds.{chosen}
 use Rattle.sql_parse.proofs.EachPart.{bind_some, column_names}
 use Rattle.sql_parse.proofs.Pieces.{split_some, split_one, split_more}
-use Rattle.sql_parse.proofs.Marks.{mark_kind, mark_is, mark_yes, after_takes, after_again, before_takes, before_again, before_other, first_takes, first_again, word_takes, word_again, name_takes, name_again, kinds, kinds_cons, kinds_nil, kinds_append}
+use Rattle.sql_parse.proofs.Marks.{mark_is, mark_yes, after_takes, after_again, before_takes, before_again, before_other, first_takes, first_again, word_takes, word_again, name_takes, name_again, kinds, kinds_cons, kinds_nil, kinds_append}
 
 column_is : (x y : Column) → ◌≡◌ {A = Option Column} (Some x) (Some y) → x ≡ y
 column_is x y e = cc

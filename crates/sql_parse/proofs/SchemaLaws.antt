@@ -1,5 +1,5 @@
 -- The schema that is read, over plain variables.
-use Rattle.std.proofs.Common.{◌≡◌, ◌≤◌, ◌<◌, ℕ, Bool, true, false, cond, ◌&&◌, ◌||◌, leb, List, [], ◌∷◌, length, map, Option, Some, None, option_and_then, refl, sym, ap, subst, ◌∙◌, arith, inl, inr, codes}
+use Rattle.std.proofs.Common.{◌≡◌, ℕ, true, ◌||◌, leb, List, [], ◌∷◌, length, Option, Some, None, option_and_then, refl, sym, ap, subst, ◌∙◌, arith, inl, inr, codes}
 use Rattle.std.specs.List.{list_all}
 use Rattle.std.specs.Str.{bytes_eq}
 use Rattle.std.specs.Prelude.{MatchOption}
@@ -9,13 +9,13 @@ use Rattle.lint_core.specs.declared.schema.Domain.{Domain}
 use Rattle.lint_core.specs.declared.schema.Column.{Column}
 use Rattle.lint_core.specs.declared.schema.Table.{Table}
 use Rattle.lint_core.specs.Schema.{is_domain, is_table, is_schema}
-use Rattle.sql_parse.specs.Tokens.{Token, Spells}
+use Rattle.sql_parse.specs.Tokens.{Token}
 use Rattle.sql_parse.specs.Lexing.{IsLexed, SpellsNothing}
 use Rattle.sql_parse.specs.Refused.{ReadsNothing}
 use Rattle.sql_parse.specs.FirstSchema.{WrittenColumn, signed_domain, domain_of, columns_of, IsFirstSchema}
 use Rattle.sql_parse.specs.Parsing.{table_read}
 use Rattle.sql_parse.proofs.Founds.{chosen}
-use Rattle.sql_parse.proofs.EachPart.{bind_some, column_names}
+use Rattle.sql_parse.proofs.EachPart.{bind_some}
 use Rattle.sql_parse.proofs.SchemaForm.{written_names, table_takes, table_again}
 
 domain_is : (x y : Domain) → ◌≡◌ {A = Option Domain} (Some x) (Some y) → x ≡ y

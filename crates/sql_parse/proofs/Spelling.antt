@@ -1,11 +1,11 @@
 -- Upper case, and numbers digit by digit.
-use Rattle.std.proofs.Common.{◌≡◌, ◌≤◌, ◌<◌, ◌+◌, ◌-◌, ◌*◌, ℕ, zero, suc, Bool, true, false, cond, ◌&&◌, leb, ltb, List, [], ◌∷◌, ◌++◌, length, take, drop, map, get_or, Option, Some, None, refl, sym, ap, subst, ◌∙◌, arith}
+use Rattle.std.proofs.Common.{◌≡◌, ◌≤◌, ◌<◌, ◌+◌, ◌-◌, ◌*◌, ℕ, suc, true, false, cond, ◌&&◌, leb, List, [], ◌∷◌, ◌++◌, length, take, drop, map, get_or, Some, None, refl, sym, ap, ◌∙◌, arith}
 use Rattle.std.specs.Str.{chars, encode_utf8_all}
 use Rattle.std.specs.Prelude.{encode_utf8}
 use Rattle.std.proofs.Math.Utf8.{scalar, scalars, low_scalar}
 use Rattle.std.proofs.lemmas.Str.{chars-encodes, encodes-append}
 use Rattle.std.proofs.lemmas.List.{map_more, append-nil, take_all, drop_more, drop_all}
-use Rattle.std.proofs.lemmas.Bool.{and_from, leb-true, leb-false, lt-leb, le-leb}
+use Rattle.std.proofs.lemmas.Bool.{and_from, leb-true, leb-false, lt-leb}
 use Rattle.sql_parse.specs.Tokens.{upper, decimal_value}
 use Rattle.sql_parse.specs.Lexing.{within_limit}
 

@@ -1,11 +1,11 @@
 -- Parts of lists of tokens.
-use Rattle.std.proofs.Common.{◌≡◌, ◌≤◌, ◌<◌, ◌+◌, ℕ, zero, suc, Bool, true, false, cond, List, [], ◌∷◌, ◌++◌, length, map, take, drop, get_or, Option, Some, None, option_map, unwrap_or, refl, sym, ap, subst, ◌∙◌, arith}
+use Rattle.std.proofs.Common.{◌≡◌, Bool, true, false, cond, List, [], ◌∷◌, ◌++◌, length, map, Some, None, option_map, refl, ap, ◌∙◌, arith}
 use Rattle.std.specs.List.{slice_split, onto_first}
 use Rattle.std.proofs.lemmas.List.{map-append}
 use Rattle.sql_parse.specs.declared.token.Mark.{Mark}
 use Rattle.sql_parse.specs.declared.token.Token.{Token as CodeToken}
-use Rattle.sql_parse.specs.Tokens.{Token, Kind}
-use Rattle.sql_parse.specs.Parsing.{is_mark, before, pieces}
+use Rattle.sql_parse.specs.Tokens.{Token}
+use Rattle.sql_parse.specs.Parsing.{is_mark, before}
 use Rattle.sql_parse.specs.Seen.{seen, seen_kind, all_seen}
 
 pub before_last : (m : Mark) (front : List Token) (last : Token) → before m (front ++ last ∷ []) ≡ cond (is_mark m last.kind) (Some front) None

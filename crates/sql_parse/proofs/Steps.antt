@@ -1,16 +1,11 @@
 -- A step of the lexer, and what it has read so far.
-use Rattle.std.proofs.Common.{◌≡◌, ◌≢◌, ◌≤◌, ◌<◌, ◌+◌, ◌-◌, ℕ, zero, suc, Bool, true, false, cond, not, ◌&&◌, ◌||◌, List, [], ◌∷◌, ◌++◌, length, take, drop, map, Option, Some, None, refl, sym, ap, subst, ◌∙◌, arith, inl, inr, ◌⊎◌, codes, append_assoc}
-use Rattle.std.specs.List.{list_all}
-use Rattle.std.proofs.lemmas.Bool.{not_from_false, and_parts, and_from, not-true}
-use Rattle.std.proofs.lemmas.List.{length-take-le, take_at, drop_at, append-nil, take-append-drop, length-append, length-drop, drop_all}
-use Rattle.lint_base.specs.declared.place.Span.{Span}
-use Rattle.lint_core.specs.declared.condition.Op.{Op}
-use Rattle.lint_core.specs.declared.condition.Op.TheVariants.{Eq, Lt, Le, Gt, Ge}
-use Rattle.sql_parse.specs.Blank.{is_white, is_blank, leading_white}
-use Rattle.sql_parse.specs.Tokens.{is_letter, is_digit, goes_on_word, upper, decimal_value, Kind, Word, Number, Open, Close, Comma, Semicolon, Minus, Compare, Token, IsSpelling, ends_before, begins_without, Begins, Spells}
-use Rattle.sql_parse.specs.Lexing.{front_len, Found, first_found, IsLexed, SpellsNothing}
-use Rattle.sql_parse.proofs.Front.{front_of, blank_front, dark_after, leading_of, blank_all, all_blank, leading_white-le}
-use Rattle.sql_parse.proofs.Founds.{IsFound, found_takes, found_again, spelled_dark}
+use Rattle.std.proofs.Common.{◌≡◌, ◌≢◌, ◌+◌, ℕ, true, List, [], ◌∷◌, ◌++◌, length, take, drop, Option, Some, None, refl, sym, ap, subst, ◌∙◌, arith, append_assoc}
+use Rattle.std.proofs.lemmas.List.{length-take-le, drop_at, append-nil, take-append-drop, drop_all}
+use Rattle.sql_parse.specs.Blank.{is_blank, leading_white}
+use Rattle.sql_parse.specs.Tokens.{Kind, Token, Begins, Spells}
+use Rattle.sql_parse.specs.Lexing.{Found, first_found, IsLexed, SpellsNothing}
+use Rattle.sql_parse.proofs.Front.{blank_front, leading_of, blank_all, all_blank, leading_white-le}
+use Rattle.sql_parse.proofs.Founds.{found_takes, found_again, spelled_dark}
 
 -- the token that is found at an offset
 abbrev pub token_at : ℕ → Found → Token
@@ -124,3 +119,21 @@ lex_ends text so_far at rest c end =
       spelled = subst (Spells 0 text) (append-nil so_far) (c.complete [] blank);
       only = λ others s. ended_only so_far at rest blank others (c.only others s);
     }
+
+-- a text spells one list of tokens at most
+pub spells_one : (at : ℕ) (text : List ℕ) (ts us : List Token) → Spells at text ts → Spells at text us → ts ≡ us
+spells_one at text [] [] s r = refl
+spells_one at text [] (u ∷ us) s (rest, begins, r) =
+    let step = begins_only at text u rest begins in
+    absurd (nothing_found text step.f s step.first)
+spells_one at text (t ∷ ts) [] (rest, begins, s) r =
+    let step = begins_only at text t rest begins in
+    absurd (nothing_found text step.f r step.first)
+spells_one at text (t ∷ ts) (u ∷ us) (rest, begins, s) (left, began, r) =
+    let a = begins_only at text t rest begins in
+    let b = begins_only at text u left began in
+    let found : b.f ≡ a.f = found_same b.f a.f (sym b.first ∙ a.first) in
+    let same : u ≡ t = b.is ∙ ap (token_at (at + leading_white text)) found ∙ sym a.is in
+    let after : left ≡ rest = b.left ∙ ap (λ (x : Found). drop x.len (inner text)) found ∙ sym a.left in
+    let moved : Spells t.span.to rest us = subst (λ (x : List ℕ). Spells t.span.to x us) after (subst (λ (x : Token). Spells x.span.to left us) same r) in
+    ap (λ (x : List Token). t ∷ x) (spells_one t.span.to rest ts us s moved) ∙ ap (λ (x : Token). x ∷ us) (sym same)

@@ -1,8 +1,8 @@
 -- Texts and their characters.
-use Rattle.std.proofs.Common.{◌≡◌, ℕ, Bool, true, false, List, [], ◌∷◌, map, ◌||◌, refl, sym, ap, ◌∙◌, codes, Bor}
+use Rattle.std.proofs.Common.{◌≡◌, ℕ, Bool, List, [], ◌∷◌, map, ◌||◌, refl, sym, ap, ◌∙◌, codes, Bor}
 use Rattle.std.specs.List.{list_any}
 use Rattle.std.specs.Str.{chars, IsUtf8, encode_utf8_all, bytes_eq}
-use Rattle.std.proofs.lemmas.Str.{encodes-chars, encodes_same}
+use Rattle.std.proofs.lemmas.Str.{encodes-chars}
 use Rattle.std.proofs.lemmas.Slice.Eq.{bytes_eq-Decides}
 use Rattle.std.proofs.lemmas.Bool.Decides.{same_from_decides, Decides-like}
 use Rattle.sql_parse.specs.Parsing.{is_one_of}

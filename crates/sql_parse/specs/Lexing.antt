@@ -1,6 +1,6 @@
 -- The first token of a text, as the lexer finds it. What to believe is the grammar in Tokens: proofs/ shows
 -- that a token is found here exactly where the grammar has it.
-use Rattle.std.specs.Prelude.{ℕ, suc, ◌≡◌, Bool, true, false, not, nat_eq, nat_le, List, [], ◌∷◌, length, map, take, option_and_then, Option, Some, None, if◌then◌else◌}
+use Rattle.std.specs.Prelude.{ℕ, suc, ◌≡◌, Bool, nat_eq, nat_le, List, [], ◌∷◌, length, map, take, option_and_then, Option, Some, None, if◌then◌else◌}
 use Rattle.lint_core.specs.declared.condition.Op.TheVariants.{Eq, Lt, Le, Gt, Ge}
 use Rattle.sql_parse.specs.Tokens.{is_letter, is_digit, goes_on_word, upper, decimal_value, Kind, Word, Number, Open, Close, Comma, Semicolon, Minus, Compare, Token, Spells}
 

@@ -7,3 +7,4 @@ pub mod Refused
 pub mod Lexing
 pub mod Seen
 pub mod Parsing
+pub mod QueryReading

@@ -17,3 +17,8 @@ ReadsNothing {A} reads = (tree : A) → reads tree → ⊥
 abbrev pub IsRefused : {A : Type 0} → List ℕ → (A → Type 0) → TextStop → Type 0
 IsRefused text reads stop.NoMemory = Unit {0}
 IsRefused text reads (stop.Refused refusal) = (refusal ≡ refusal_of text) × ReadsNothing reads
+
+-- a refusal comes only where this holds
+abbrev pub RefusedOnlyWhere : Type 0 → TextStop → Type 0
+RefusedOnlyWhere fact stop.NoMemory = Unit {0}
+RefusedOnlyWhere fact (stop.Refused refusal) = fact

@@ -7,10 +7,14 @@
 #![tactic(auto)]
 
 mod blank;
+mod laws;
 mod lex;
 mod parts;
+mod query;
 mod refused;
 mod schema;
 mod token;
 
+pub use laws::one_reading;
+pub use query::read_first_query;
 pub use schema::read_first_schema;

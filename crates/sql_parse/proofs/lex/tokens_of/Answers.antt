@@ -1,4 +1,4 @@
-use Rattle.std.proofs.Common.{arith, refl, ◌+◌, ◌≤◌, ◌<◌, ◌≡◌, length, sym, ap, ◌∙◌}
+use Rattle.std.proofs.Common.{arith, ap, ◌∙◌}
 use Rattle.std.proofs.lemmas.List.{take_rest}
 use Rattle.sql_parse.specs.Blank.{leading_white}
 use Rattle.sql_parse.specs.Seen.{all_seen}

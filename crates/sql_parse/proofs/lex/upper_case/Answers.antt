@@ -1,4 +1,4 @@
-use Rattle.std.proofs.Common.{rules, sym, refl, get_or, ap, ◌≡◌, ◌++◌, ◌∙◌, string_bytes, encode_utf8, chars, map, arith}
+use Rattle.std.proofs.Common.{refl, get_or, ap, ◌≡◌, ◌++◌, ◌∙◌, string_bytes, encode_utf8, chars, map, arith}
 use Rattle.std.proofs.lemmas.Result.{IfOk-weaker}
 use Rattle.sql_parse.specs.Tokens.{upper}
 use Rattle.sql_parse.proofs.Spelling.{upper_more, upper_done}

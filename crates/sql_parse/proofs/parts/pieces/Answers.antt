@@ -1,4 +1,4 @@
-use Rattle.std.proofs.Common.{◌≡◌, ◌∙◌, ap, map, List}
+use Rattle.std.proofs.Common.{◌∙◌, ap, map, List}
 use Rattle.sql_parse.specs.declared.token.Token.{Token as CodeToken}
 use Rattle.sql_parse.specs.Parsing.{is_mark, pieces}
 use Rattle.sql_parse.specs.Seen.{seen, all_seen}

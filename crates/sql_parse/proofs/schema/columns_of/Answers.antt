@@ -1,4 +1,4 @@
-use Rattle.std.proofs.Common.{◌≡◌, ◌∙◌, sym, ap, List, take, Some, get_or, Bor}
+use Rattle.std.proofs.Common.{◌∙◌, sym, ap, List, Some, Bor}
 use Rattle.sql_parse.specs.declared.token.Token.{Token as CodeToken}
 use Rattle.lint_core.specs.declared.schema.Column.{Column}
 use Rattle.sql_parse.specs.Tokens.{Token}

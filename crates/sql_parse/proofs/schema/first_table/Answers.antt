@@ -1,4 +1,4 @@
-use Rattle.std.proofs.Common.{◌≡◌, ◌∙◌, ap}
+use Rattle.std.proofs.Common.{◌∙◌, ap}
 use Rattle.std.proofs.lemmas.Option.{MatchOption-at_some}
 use Rattle.sql_parse.specs.Parsing.{table_read}
 use Rattle.sql_parse.specs.Seen.{all_seen}

@@ -1,4 +1,4 @@
-use Rattle.std.proofs.Common.{◌≡◌, ◌∙◌, sym}
+use Rattle.std.proofs.Common.{◌∙◌, sym}
 use Rattle.sql_parse.proofs.EachPart.{differ_more, differ_stops}
 use Rattle.sql_parse.proofs.schema.names_differ.Goals as goal
 

@@ -1,4 +1,4 @@
-use Rattle.std.proofs.Common.{◌≡◌, ◌∙◌, refl}
+use Rattle.std.proofs.Common.{◌∙◌, refl}
 use Rattle.sql_parse.proofs.Texts.{any_reserved}
 use Rattle.sql_parse.proofs.token.is_reserved.Goals as goal
 

@@ -1,4 +1,4 @@
-use Rattle.std.proofs.Common.{◌≡◌, ◌∙◌}
+use Rattle.std.proofs.Common.{◌∙◌}
 use Rattle.sql_parse.proofs.Texts.{text_eq}
 use Rattle.sql_parse.proofs.token.is_text.Goals as goal
 
