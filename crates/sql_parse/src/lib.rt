@@ -3,7 +3,8 @@
 //!
 //! The layer above may use `read_first_schema` and `read_first_query`. Of `specs/` a reader must
 //! believe the grammar: `Blank`, `Tokens`, `Reserved`, `FirstSchema`, `FirstQuery` and `Refused`.
-//! `Lexing` only retells the code; `proofs/` shows that it follows the grammar.
+//! `Lexing`, `Parsing`, `QueryReading` and `Seen` only retell the code; `proofs/` shows that what they
+//! read is what the grammar has.
 #![tactic(auto)]
 
 mod blank;
@@ -18,3 +19,6 @@ mod token;
 pub use laws::one_reading;
 pub use query::read_first_query;
 pub use schema::read_first_schema;
+
+#[cfg(test)]
+mod tests;
