@@ -1,5 +1,5 @@
 -- White space, and the part of a text between it.
-use Rattle.std.specs.Prelude.{ℕ, ◌+◌, ◌-◌, Bool, true, false, ◌&&◌, ◌||◌, not, nat_eq, nat_le, List, [], ◌∷◌, length, reverse, if◌then◌else◌}
+use Rattle.std.specs.Prelude.{ℕ, ◌+◌, ◌-◌, Bool, ◌&&◌, ◌||◌, nat_eq, nat_le, List, [], ◌∷◌, length, reverse, if◌then◌else◌}
 use Rattle.std.specs.List.{list_all}
 use Rattle.lint_base.specs.declared.place.Span.{Span}
 

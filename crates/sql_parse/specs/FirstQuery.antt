@@ -1,15 +1,14 @@
 -- The first form of a query file: SELECT name FROM name WHERE name op literal { AND name op literal } [ ; ],
 -- where op is <, <=, >, >= or = and a literal is an optional - and a number. The names are those of the
 -- schema. There are at most 4,096 tokens, the ; not counted.
-use Rattle.std.specs.Prelude.{ℕ, ℤ, pos, neg_ℤ, ◌+◌, ◌≤◌, ◌≡◌, ◌⊎◌, Bool, true, false, List, [], ◌∷◌, ◌++◌, length, Option, Some, None, position, slice_get, if◌then◌else◌, codes}
+use Rattle.std.specs.Prelude.{ℕ, ℤ, pos, neg_ℤ, ◌+◌, ◌≤◌, ◌≡◌, false, List, [], ◌∷◌, ◌++◌, length, Option, Some, position, slice_get, codes}
 use Rattle.std.specs.Str.{bytes_eq}
-use Rattle.lint_base.specs.declared.place.Span.{Span}
 use Rattle.lint_core.specs.declared.condition.Term.TheVariants as term
 use Rattle.lint_core.specs.declared.schema.Column.{Column}
 use Rattle.lint_core.specs.declared.schema.Table.{Table}
 use Rattle.lint_core.specs.declared.query.Query.{Query}
 use Rattle.lint_core.specs.FirstForm.{Conjunct, where_cond}
-use Rattle.sql_parse.specs.Tokens.{Kind, Word, Number, Semicolon, Minus, Compare, Token, Spells}
+use Rattle.sql_parse.specs.Tokens.{Word, Number, Semicolon, Minus, Compare, Token, Spells}
 use Rattle.sql_parse.specs.Reserved.{is_reserved}
 
 -- the place of the first table, or column, of that name

@@ -4,3 +4,7 @@ pub mod Reserved
 pub mod FirstSchema
 pub mod FirstQuery
 pub mod Refused
+pub mod Lexing
+pub mod Seen
+pub mod Parsing
+pub mod QueryReading

@@ -1,6 +1,6 @@
 -- How tokens are spelled (ISO/IEC 9075:1992, 5.2). The longest token is taken: what stands behind a token
 -- does not continue it. Words are compared in upper case.
-use Rattle.std.specs.Prelude.{ℕ, ◌+◌, ◌-◌, ◌*◌, ◌<◌, ◌≤◌, ◌≡◌, Bool, true, false, ◌&&◌, ◌||◌, not, nat_eq, nat_le, List, [], ◌∷◌, ◌++◌, length, map, if◌then◌else◌, codes}
+use Rattle.std.specs.Prelude.{ℕ, ◌+◌, ◌-◌, ◌*◌, ◌≤◌, ◌≡◌, Bool, true, ◌&&◌, ◌||◌, not, nat_eq, nat_le, List, [], ◌∷◌, ◌++◌, length, map, if◌then◌else◌, codes}
 use Rattle.std.specs.List.{list_all}
 use Rattle.lint_base.specs.declared.place.Span.{Span}
 use Rattle.lint_core.specs.declared.condition.Op.{Op}

@@ -1,0 +1,17 @@
+pub mod Front
+pub mod Spelling
+pub mod Founds
+pub mod Steps
+pub mod Scan
+pub mod Texts
+pub mod Splitting
+pub mod EachPart
+pub mod Marks
+pub mod Pieces
+pub mod SchemaForm
+pub mod SchemaLaws
+pub mod Positions
+pub mod Numbers
+pub mod QueryForm
+pub mod QueryWhole
+pub mod QueryLaws
