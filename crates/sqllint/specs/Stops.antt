@@ -30,8 +30,11 @@ pub record Told : Type 0 where
 abbrev pub told : {S : Type 0} → (S → ℕ) → (S → ℕ) → (S → Option (List ℕ)) → (S → Option (List ℕ)) → (S → ℕ) → S → Told
 told open_faults read_faults failed_path opened_path given shelf =
     record {
-      open_faults = open_faults shelf; read_faults = read_faults shelf;
-      failed_path = failed_path shelf; opened_path = opened_path shelf; given = given shelf;
+      open_faults = open_faults shelf;
+      read_faults = read_faults shelf;
+      failed_path = failed_path shelf;
+      opened_path = opened_path shelf;
+      given = given shelf;
     }
 
 -- neither count rose, and the last open that failed is the one from before

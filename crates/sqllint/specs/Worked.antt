@@ -37,7 +37,9 @@ answered schema query answer =
 abbrev pub contradiction : Cert
 contradiction =
     record {
-      query = 1; question = 1; value = value.Null;
+      query = 1;
+      question = 1;
+      value = value.Null;
       steps = step.Ex 0 ∷ step.And 1 ∷ step.Sum (edge.Fact 2 ∷ edge.Fact 3 ∷ []) ∷ [];
     }
 
@@ -53,19 +55,19 @@ abbrev pub AlwaysText : Type 0
 AlwaysText =
     (schema : List Table) (query : Query) → query.block.span ≡ from_to 0 37
     → run_text None (answered schema query (Always contradiction))
-        ≡ codes "query 1 at 0..37\n  1 E1 at 0..37: always (finding)\n    proof [[\"ex\",0],[\"and\",1],[\"sum\",[[0,2],[0,3]]]]\n"
+    ≡ codes "query 1 at 0..37\n  1 E1 at 0..37: always (finding)\n    proof [[\"ex\",0],[\"and\",1],[\"sum\",[[0,2],[0,3]]]]\n"
 
 abbrev pub NotAlwaysText : Type 0
 NotAlwaysText =
     (table : Table) (query : Query) → encode_utf8_all table.name ≡ codes "T" → query.block.span ≡ from_to 0 37
     → run_text None (answered (table ∷ []) query (NotAlways (six ∷ [])))
-        ≡ codes "query 1 at 0..37\n  1 E1 at 0..37: not always\n    database\n    INSERT INTO T VALUES (6, NULL);\n    at 1\n"
+    ≡ codes "query 1 at 0..37\n  1 E1 at 0..37: not always\n    database\n    INSERT INTO T VALUES (6, NULL);\n    at 1\n"
 
 abbrev pub RefusedText : Type 0
 RefusedText =
     (schema : List Table)
     → run_text None (record { schema = schema; queries = record { span = from_to 0 29; result = Refused (not_built (from_to 0 29)) } ∷ [] })
-        ≡ codes "query 1 at 0..29\n  refused 10 NotBuilt at 0..29\n"
+    ≡ codes "query 1 at 0..29\n  refused 10 NotBuilt at 0..29\n"
 
 abbrev pub SchemaRefusedText : Type 0
 SchemaRefusedText = (run : Run) → run_text (Some (stop.SchemaRefused (not_built (from_to 0 36)))) run ≡ codes "stop SchemaRefused 10 NotBuilt at 0..36\n"

@@ -7,14 +7,13 @@ ghost use Rattle.sqllint.specs.Text.{run_text};
 ghost use Rattle.sqllint.specs.Words.{Paths, paths_of, paths_at};
 ghost use Rattle.sqllint.specs.Written.{sunk, EndsRight};
 
-use lint_base::{Items, Shelf, Sink, WriteStop, write_text};
-use lint_core::{Answer, QueryResult, QueryRun, Run, Schema};
-use std::alloc::{AllocError, Global};
-
 use crate::outcome::{Outcome, Stop};
 use crate::reading::{queries_at, schema_at};
 use crate::report::text_of;
 use crate::words::files_named;
+use lint_base::{Items, Shelf, Sink, WriteStop, write_text};
+use lint_core::{Answer, QueryResult, QueryRun, Run, Schema};
+use std::alloc::{AllocError, Global};
 
 /// What the files came to, before anything is written.
 #[derive(Drop)]
@@ -41,7 +40,12 @@ fn unbegun(alloc: Global) -> Run
     }
 }
 
-fn judge_files<H: Shelf>(alloc: Global, shelf: &mut H, schema_path: &str, queries_path: &str) -> Judged
+fn judge_files<H: Shelf>(
+    alloc: Global,
+    shelf: &mut H,
+    schema_path: &str,
+    queries_path: &str,
+) -> Judged
     ensures files { H.files shelf.new ≡ H.files shelf.old }
     ensures cause { HasCauseAt (H.files shelf.old) (paths_at schema_path.now queries_path.now)
         (told H.open_faults H.read_faults H.failed_path H.opened_path H.given shelf.old)
@@ -206,7 +210,12 @@ fn written<K: Sink>(alloc: Global, judged: Judged, out: &mut K) -> Outcome
 /// | `SchemaRefused` | exactly where the schema file is not of the first form |
 /// | `WriteFault` | only where the sink's count rose; it replaces the stop whose line was being written |
 /// | `NoMemory` | where memory ran out |
-pub fn run<H: Shelf, K: Sink>(alloc: Global, words: &[String], shelf: &mut H, out: &mut K) -> Outcome
+pub fn run<H: Shelf, K: Sink>(
+    alloc: Global,
+    words: &[String],
+    shelf: &mut H,
+    out: &mut K,
+) -> Outcome
     ensures files { H.files shelf.new ≡ H.files shelf.old }
     // Without a stop each file was read to its end, the run is right for both, and its report was
     // written whole; a stop has its cause, and its line was written whole.

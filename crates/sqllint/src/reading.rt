@@ -10,13 +10,12 @@ ghost use Rattle.sqllint.specs.RightRun.{AreRightQueries};
 ghost use Rattle.sqllint.specs.Reading.{stop_of, IsAnsweredRun};
 ghost use Rattle.sqllint.specs.Stops.{StopsAtSchema, StopsAtQueries, told, IsSchemaRead, AreQueriesRead};
 
+use crate::outcome::{Stop, Which};
 use lint_base::{Items, NoMemory, ReadStop, Shelf, TextStop, read_file};
 use lint_core::{Query, QueryResult, QueryRun, Question, Run, Schema};
 use lint_engine::judge_empty;
 use sql_parse::{read_first_query, read_first_schema};
 use std::alloc::Global;
-
-use crate::outcome::{Stop, Which};
 
 /// The most bytes that a file may have.
 pub const FILE_LIMIT: u32 = 1_048_576;

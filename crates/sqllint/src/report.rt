@@ -3,14 +3,13 @@ ghost use Rattle.std.specs.Prelude.{◌≡◌, ℕ, ◌+◌, ◌<◌, ◌^◌, �
 ghost use Rattle.std.specs.Fmt.{decimal, signed_decimal};
 ghost use Rattle.sqllint.specs.Text.{texts, joined, span_text, refusal_text, edge_text, step_text, steps_text, value_text, target_text, insert_line, insert_lines, level_text, places_text, points_text, at_line, counter_text, always_text, not_always_text, answer_text, question_text, asked_text, answers_text, result_text, query_line, queries_text, report_text, which_text, schema_refused_text, stop_text, run_text};
 
+use crate::outcome::{Stop, Which};
 use lint_base::{Fault, Items, Refusal, Span, Str};
 use lint_core::{
-    Answer, Counter, Points, Query, QueryResult, QueryRun, Question, Row, Run, Step, SumEdge, Table,
-    Value,
+    Answer, Counter, Points, Query, QueryResult, QueryRun, Question, Row, Run, Step, SumEdge,
+    Table, Value,
 };
 use std::alloc::AllocError;
-
-use crate::outcome::{Stop, Which};
 
 fn push_text(out: &mut String, text: &str) -> Result<(), AllocError>
     ensures { OnOk result (string_bytes out.new ≡ string_bytes out.old ++ text.now) }
@@ -218,9 +217,10 @@ fn push_tables(out: &mut String, tables: &[Table], rows: &[Items<Row>]) -> Resul
 {
     let mut tables = tables;
     let mut rows = rows;
-    while let (Some((table, more_tables)), Some((first, more_rows))) =
-        (tables.split_first(), rows.split_first())
-    {
+    while let (Some((table, more_tables)), Some((first, more_rows))) = (
+        tables.split_first(),
+        rows.split_first(),
+    ) {
         push_rows(out, table, first.as_slice())?;
         tables = more_tables;
         rows = more_rows;
@@ -320,7 +320,11 @@ fn push_always(out: &mut String, steps: &[Step]) -> Result<(), AllocError>
 }
 
 #[tactic(auto, unfolding(crate::specs::Text::not_always_text))]
-fn push_not_always(out: &mut String, tables: &[Table], counters: &[Counter]) -> Result<(), AllocError>
+fn push_not_always(
+    out: &mut String,
+    tables: &[Table],
+    counters: &[Counter],
+) -> Result<(), AllocError>
     ensures { OnOk result (string_bytes out.new ≡ string_bytes out.old ++ not_always_text tables.now counters.now) }
 {
     push_text(out, "not always\n")?;
@@ -350,7 +354,12 @@ fn push_question(out: &mut String, query: &Query, question: Question) -> Result<
 }
 
 #[tactic(auto, unfolding(crate::specs::Text::asked_text))]
-fn push_asked(out: &mut String, query: &Query, number: u64, question: Question) -> Result<(), AllocError>
+fn push_asked(
+    out: &mut String,
+    query: &Query,
+    number: u64,
+    question: Question,
+) -> Result<(), AllocError>
     ensures { OnOk result (string_bytes out.new ≡ string_bytes out.old ++ asked_text query.now number question) }
 {
     push_text(out, "  ")?;
@@ -372,9 +381,10 @@ fn push_answers(
     let mut number = 1;
     let mut questions = questions;
     let mut answers = answers;
-    while let (Some((question, more_questions)), Some((answer, more_answers))) =
-        (questions.split_first(), answers.split_first())
-    {
+    while let (Some((question, more_questions)), Some((answer, more_answers))) = (
+        questions.split_first(),
+        answers.split_first(),
+    ) {
         push_asked(out, query, number, *question)?;
         push_answer(out, tables, answer)?;
         number += 1;
@@ -385,7 +395,11 @@ fn push_answers(
 }
 
 #[tactic(auto, unfolding(crate::specs::Text::result_text))]
-fn push_result(out: &mut String, tables: &[Table], result_of: &QueryResult) -> Result<(), AllocError>
+fn push_result(
+    out: &mut String,
+    tables: &[Table],
+    result_of: &QueryResult,
+) -> Result<(), AllocError>
     ensures { OnOk result (string_bytes out.new ≡ string_bytes out.old ++ result_text tables.now result_of.now) }
 {
     match result_of {
@@ -472,10 +486,6 @@ pub fn text_of(out: &mut String, stop: Option<Stop>, run: &Run) -> Result<(), Al
 {
     match stop {
         Some(stop) => push_stop(out, stop),
-        None => push_queries(
-            out,
-            run.schema.tables().as_slice(),
-            run.queries.as_slice(),
-        ),
+        None => push_queries(out, run.schema.tables().as_slice(), run.queries.as_slice()),
     }
 }

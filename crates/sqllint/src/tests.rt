@@ -1,12 +1,10 @@
 //! The program end to end, over files and a sink in memory, and the system's edge once.
-use lint_base::{Failed, Items, MemFile, MemShelf, MemSink, NoMemory, Shelf, Sink, Str, read_file};
-use std::alloc::Global;
-use std::env;
-use std::fs;
-use std::test::Fail;
-
 use crate::host::{HostShelf, StdSink};
 use crate::program::run;
+use lint_base::{Failed, Items, MemFile, MemShelf, MemSink, NoMemory, Shelf, Sink, Str, read_file};
+use std::alloc::Global;
+use std::test::Fail;
+use std::{env, fs};
 
 const SCHEMA: &str = "CREATE TABLE t (a INTEGER, b SMALLINT);";
 
@@ -33,11 +31,7 @@ fn file(alloc: Global, path: &str, text: &str) -> Result<MemFile, NoMemory> {
 }
 
 /// The status of a run on these words, and what it wrote.
-fn status_and_text(
-    alloc: Global,
-    words: &[&str],
-    case: &Case,
-) -> Result<(u8, Vec<u8>), NoMemory> {
+fn status_and_text(alloc: Global, words: &[&str], case: &Case) -> Result<(u8, Vec<u8>), NoMemory> {
     let mut files = Items::new(alloc);
     files.push(file(alloc, "s", case.schema)?)?;
     files.push(file(alloc, "q", case.queries)?)?;
@@ -193,7 +187,10 @@ fn the_system_is_a_shelf_and_a_sink(rt: HostRuntime) -> Result<(), Fail> {
     fs::write(&rt, path.as_path(), "some text")?;
     let mut shelf = HostShelf::new(&rt);
     let name = path.as_path().to_str().ok_or("no text")?;
-    assert_eq!(rt; read_file(rt.alloc(), &mut shelf, name, 9)?.as_slice(), b"some text".as_slice());
+    assert_eq!(rt;
+        read_file(rt.alloc(), &mut shelf, name, 9)?.as_slice(),
+        b"some text".as_slice()
+    );
     assert_eq!(rt; shelf.open_file("/no/such/file"), Err(Failed));
     let mut sink = StdSink::new(Vec::new(rt.alloc()));
     assert_eq!(rt; sink.write(b"text"), Ok(4));
