@@ -19,6 +19,12 @@ pub struct Failed;
 /// Why a text is refused, by the number and the name that reports print.
 #[derive(Clone, Copy, Debug, PartialEq, Eq)]
 pub enum Fault {
+    /// 1: a byte that begins no token, a quoted token that is no UTF-8, or a delimited name of no characters.
+    BadByte,
+    /// 2: a quote that is not closed.
+    OpenQuote,
+    /// 3: a number above 9223372036854775807.
+    BigNumber,
     /// 10: the text is not of the first form.
     NotBuilt,
 }

@@ -1,0 +1,6 @@
+pub mod Bytes
+pub mod Classes
+pub mod Pieces
+pub mod Gaps
+pub mod Tokens
+pub mod Faults
