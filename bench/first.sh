@@ -52,4 +52,4 @@ echo "one comparison: $start microseconds"
 echo "4,096 tokens on 64 columns: $wide microseconds"
 echo "511 comparisons on one column: $half microseconds"
 echo "1,022 comparisons on one column: $whole microseconds"
-awk -v s="$start" -v h="$half" -v w="$whole" 'BEGIN { printf "doubling takes %.2f times as long (%.2f times above the start of the program)\n", w / h, (w - s) / ((h - s) > 0 ? h - s : 1) }'
+awk -v h="$half" -v w="$whole" 'BEGIN { printf "doubling the comparisons on one column takes %.2f times as long\n", w / h }'
