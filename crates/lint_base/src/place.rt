@@ -27,9 +27,33 @@ pub enum Fault {
     BigNumber,
     /// 10: the text is not of the first form.
     NotBuilt,
+    /// 11: a query has too many tokens.
+    Long,
+    /// 12: too many parentheses are open.
+    Deep,
+    /// 13: the tokens are no statement.
+    Syntax,
+    /// 21: no table has the name.
+    UnknownTable,
+    /// 22: no column has the name.
+    UnknownColumn,
+    /// 23: more than one column has the name.
+    AmbiguousColumn,
+    /// 24: the name is taken.
+    DuplicateName,
+    /// 25: the kinds of the values do not go together.
+    TypeMismatch,
+    /// 26: the columns that a foreign key refers to are no key.
+    NotAKey,
+    /// 27: there are too many of a kind.
+    TooMany,
+    /// 28: a subquery has not one column.
+    OneColumnNeeded,
+    /// 29: a length is out of its range.
+    BadLength,
 }
 
-/// A fault and its place. `count` is 0.
+/// A fault and its place. `count` is 0 but for `Long` and `TooMany`.
 #[derive(Clone, Copy, Debug, PartialEq, Eq)]
 pub struct Refusal {
     pub fault: Fault,

@@ -1,7 +1,7 @@
 //! The bytes that a run writes, as `specs/Text.antt` says them.
 ghost use Rattle.std.specs.Prelude.{◌≡◌, ℕ, ◌+◌, ◌<◌, ◌^◌, ◌++◌, ◌∷◌, [], Option, length, OnOk, codes, string_bytes, encode_utf8_all};
 ghost use Rattle.std.specs.Fmt.{decimal, signed_decimal};
-ghost use Rattle.sqllint.specs.Text.{texts, joined, span_text, refusal_text, edge_text, step_text, steps_text, value_text, target_text, insert_line, insert_lines, level_text, places_text, points_text, at_line, counter_text, always_text, not_always_text, answer_text, question_text, asked_text, answers_text, result_text, query_line, queries_text, report_text, which_text, schema_refused_text, stop_text, run_text};
+ghost use Rattle.sqllint.specs.Text.{texts, joined, span_text, fault_text, count_text, refusal_text, edge_text, step_text, steps_text, value_text, target_text, insert_line, insert_lines, level_text, places_text, points_text, at_line, counter_text, always_text, not_always_text, answer_text, question_text, asked_text, answers_text, result_text, query_line, queries_text, report_text, which_text, schema_refused_text, stop_text, run_text};
 
 use crate::outcome::{Stop, Which};
 use lint_base::{Fault, Items, Refusal, Span, Str};
@@ -38,15 +38,50 @@ fn push_span(out: &mut String, span: Span) -> Result<(), AllocError>
     push_number(out, u64::from(span.to))
 }
 
-#[tactic(auto, unfolding(crate::specs::Text::refusal_text, crate::specs::Text::fault_text))]
+#[tactic(auto, unfolding(crate::specs::Text::fault_text))]
+fn push_fault(out: &mut String, fault: Fault) -> Result<(), AllocError>
+    ensures { OnOk result (string_bytes out.new ≡ string_bytes out.old ++ fault_text fault) }
+{
+    match fault {
+        Fault::BadByte => push_text(out, "1 BadByte"),
+        Fault::OpenQuote => push_text(out, "2 OpenQuote"),
+        Fault::BigNumber => push_text(out, "3 BigNumber"),
+        Fault::NotBuilt => push_text(out, "10 NotBuilt"),
+        Fault::Long => push_text(out, "11 Long"),
+        Fault::Deep => push_text(out, "12 Deep"),
+        Fault::Syntax => push_text(out, "13 Syntax"),
+        Fault::UnknownTable => push_text(out, "21 UnknownTable"),
+        Fault::UnknownColumn => push_text(out, "22 UnknownColumn"),
+        Fault::AmbiguousColumn => push_text(out, "23 AmbiguousColumn"),
+        Fault::DuplicateName => push_text(out, "24 DuplicateName"),
+        Fault::TypeMismatch => push_text(out, "25 TypeMismatch"),
+        Fault::NotAKey => push_text(out, "26 NotAKey"),
+        Fault::TooMany => push_text(out, "27 TooMany"),
+        Fault::OneColumnNeeded => push_text(out, "28 OneColumnNeeded"),
+        Fault::BadLength => push_text(out, "29 BadLength"),
+    }
+}
+
+fn push_count(out: &mut String, refusal: Refusal) -> Result<(), AllocError>
+    ensures { OnOk result (string_bytes out.new ≡ string_bytes out.old ++ count_text refusal) }
+{
+    match refusal.fault {
+        Fault::Long | Fault::TooMany => {
+            push_text(out, " count ")?;
+            push_number(out, u64::from(refusal.count))
+        }
+        _ => Ok(()),
+    }
+}
+
+#[tactic(auto, unfolding(crate::specs::Text::refusal_text))]
 fn push_refusal(out: &mut String, refusal: Refusal) -> Result<(), AllocError>
     ensures { OnOk result (string_bytes out.new ≡ string_bytes out.old ++ refusal_text refusal) }
 {
-    match refusal.fault {
-        Fault::NotBuilt => push_text(out, "10 NotBuilt")?,
-    }
+    push_fault(out, refusal.fault)?;
     push_text(out, " at ")?;
-    push_span(out, refusal.span)
+    push_span(out, refusal.span)?;
+    push_count(out, refusal)
 }
 
 fn push_cell(out: &mut String, row: u32, column: u32) -> Result<(), AllocError>
