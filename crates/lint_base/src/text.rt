@@ -38,4 +38,13 @@ impl Str {
     {
         self.text.as_str()
     }
+
+    /// The same text.
+    pub fn copy(&self, alloc: Global) -> Result<Str, NoMemory>
+        ensures { IfOk result (λ s. s ≡ self.now) }
+    {
+        Ok(Str {
+            text: String::from_str(alloc, self.text.as_str())?,
+        })
+    }
 }
