@@ -20,4 +20,3 @@ pub fn operators_change_sides()
     ensures negation { (op : Operator) (a b : ℤ) → is_related (negation op) a b ≡ not (is_related op a b) }
     ensures mirror { (op : Operator) (a b : ℤ) → is_related (mirror op) a b ≡ is_related op b a }
 {}
-

@@ -10,7 +10,7 @@ mod grid;
 mod laws;
 mod op;
 
-pub use fixed::{Fixed, RESERVED};
+pub use fixed::{Fixed, RESERVED, reserved_words};
 pub use grid::{AND_GRID, Grid, NOT_GRID, OR_GRID};
 pub use laws::{grids_are_truth_tables, operators_change_sides};
 pub use op::Op;
