@@ -26,15 +26,15 @@ macro_rules! fixed {
     };
 }
 
-/// The reserved words, in upper case and in their order. A clause cannot name a constant that holds
-/// references, so `reserved_words` states which words these are; a caller of `RESERVED.find` knows them.
+/// The reserved words, in upper case and in their order. A caller of `RESERVED.find` knows them, but a
+/// clause cannot name a constant that holds references: `reserved_words` states which words these are.
 pub const RESERVED: Fixed<44> = fixed! {
     ALL AND ANY AS BETWEEN BY CASE CHECK CONSTRAINT CREATE CROSS DISTINCT EXCEPT EXISTS FOREIGN FROM FULL
     GROUP HAVING IN INNER INTERSECT IS JOIN LEFT LIKE NATURAL NOT NULL ON OR ORDER OUTER PRIMARY REFERENCES
     RIGHT SELECT SOME TABLE UNION UNIQUE USING WHERE WITH
 };
 
-/// The reserved words as a value, which is `RESERVED`.
+/// The reserved words, which are `RESERVED`.
 pub fn reserved_words() -> Fixed<44>
     ensures { result ≡ reserved }
 {

@@ -1,8 +1,9 @@
 //! Small tables that others look things up in: the three-valued AND, OR and NOT as grids of numbers,
 //! fixed lists of words with the reserved words of SQL, and the comparison operators.
 //!
-//! The layer above may use every public item. Of `specs/` a reader must believe `Grid`, `Words` and
-//! `Operators`; `laws` proves of the constants and of the operators what they are for.
+//! The layer above may use every public item; it looks a keyword up by `RESERVED.find`. Of `specs/` a
+//! reader must believe `Grid`, `Words` and `Operators`; `laws` proves of the grids, of the operators and of
+//! the reserved words what they are for.
 #![tactic(auto)]
 
 mod fixed;
