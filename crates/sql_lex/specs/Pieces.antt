@@ -9,7 +9,6 @@ pub record Part : Type 0 where
   pub from : ℕ
   pub inside : List Class
 
-
 -- the parts between separators, from an offset on; `so_far` is the part that has begun at `from`
 abbrev pub parts_from : ℕ → List Class → ℕ → List Class → List Part
 parts_from from so_far at [] = record { from = from; inside = so_far } ∷ []
@@ -37,5 +36,9 @@ abbrev pub spans_of : List Part → List Span
 spans_of [] = []
 spans_of (part ∷ parts) = spanned (solid_places part.from part.inside) ++ spans_of parts
 
+-- the pieces of a text that stands at an offset
+abbrev pub pieces_from : ℕ → List ℕ → List Span
+pieces_from at text = spans_of (parts_from at [] at (classes Nothing text))
+
 abbrev pub pieces : List ℕ → List Span
-pieces text = spans_of (parts_from 0 [] 0 (classes Nothing text))
+pieces text = pieces_from 0 text

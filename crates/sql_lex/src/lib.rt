@@ -5,6 +5,11 @@
 //! (which refusal comes first).
 #![tactic(auto)]
 
+mod classes;
+mod pieces;
+mod split;
 mod token;
 
+pub use pieces::Pieces;
+pub use split::split_queries;
 pub use token::{Kind, Sign, Token};
