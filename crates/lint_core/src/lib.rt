@@ -15,7 +15,9 @@
 
 mod certificate;
 mod condition;
+mod copies;
 mod database;
+mod fits;
 mod formula;
 mod laws;
 mod query;
