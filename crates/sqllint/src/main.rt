@@ -4,6 +4,11 @@
 //! edge. Of `specs/` a reader must believe `Words`, `Text` (the bytes), `RightRun` (what a run says of
 //! the queries), `Stops` (when each stop comes), `Status` and `Written`. `laws` proves of `Text` that
 //! four runs have the texts that are known by hand.
+//!
+//! Wrong bodies that the contracts let through, and why that is right: a `HostShelf` that reads nothing,
+//! and reads and writes of the system's that always fail (no clause can say what a file or a terminal
+//! gives or takes); private functions that find no memory (tests show that runs succeed); and the one
+//! question in place of the question that is printed.
 #![tactic(auto)]
 
 mod host;
