@@ -4,3 +4,5 @@ pub mod Pieces
 pub mod Gaps
 pub mod Tokens
 pub mod Faults
+pub mod Refused
+pub mod Lexing

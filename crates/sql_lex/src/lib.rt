@@ -5,6 +5,16 @@
 //! (which refusal comes first).
 #![tactic(auto)]
 
+mod lexer;
+mod lex_bytes;
+mod lex_found;
+mod lex_gap;
+mod lex_laws;
+mod lex_quote;
+mod lex_sign;
+mod lex_word;
 mod token;
 
+pub use lexer::lex;
+pub use lex_laws::one_lexing;
 pub use token::{Kind, Sign, Token};

@@ -1,0 +1,4 @@
+pub mod LexFront
+pub mod LexSpelling
+pub mod LexGaps
+pub mod LexQuotes
