@@ -115,16 +115,26 @@ last_again false (b ∷ bs) between =
     (λ d h. rw d (last_again true bs h))
     (λ d h. let parts = and_parts (is_white b) (is_gap_from true false bs) h in rw (white_no_dash b parts.0, parts.0) (last_again false bs parts.1)) between
 
--- what begins no gap
-pub dark_byte : (b : ℕ) (bs : List ℕ) → is_white b ≡ false → (eqb b 45 && begins_with_dash bs) ≡ false → after_gap false (b ∷ bs) ≡ b ∷ bs
-dark_byte b bs white dash = rw (dash, white) refl
+-- a text that begins no gap
+pub record Dark (b : ℕ) (bs : List ℕ) : Type 0 where
+  pub white : is_white b ≡ false
+  pub dashes : (eqb b 45 && begins_with_dash bs) ≡ false
+
+pub dark_byte : (b : ℕ) (bs : List ℕ) → Dark b bs → after_gap false (b ∷ bs) ≡ b ∷ bs
+dark_byte b bs dark = rw (dark.dashes, dark.white) refl
+
+same_dark : (b c : ℕ) (bs cs : List ℕ) → b ∷ bs ≡ c ∷ cs → Dark b bs → Dark c cs
+same_dark b c bs cs e dark =
+    let heads : b ≡ c = cc in
+    let tails : bs ≡ cs = cc in
+    subst (λ (x : ℕ). Dark x cs) heads (subst (λ (x : List ℕ). Dark b x) tails dark)
 
 -- what is left behind a gap begins none
-pub left_dark : (inside : Bool) (text : List ℕ) (c : ℕ) (cs : List ℕ) → after_gap inside text ≡ c ∷ cs → is_white c ≡ false
+pub left_dark : (inside : Bool) (text : List ℕ) (c : ℕ) (cs : List ℕ) → after_gap inside text ≡ c ∷ cs → Dark c cs
 left_dark inside [] c cs e = absurd cc
 left_dark true (b ∷ bs) c cs e = left_dark (cond (eqb b 10) false true) bs c cs e
 left_dark false (b ∷ bs) c cs e =
-    let P : List ℕ → Type 0 = λ x. x ≡ c ∷ cs → is_white c ≡ false in
+    let P : List ℕ → Type 0 = λ x. x ≡ c ∷ cs → Dark c cs in
     cond_both (eqb b 45 && begins_with_dash bs) (after_gap true bs) (cond (is_white b) (after_gap false bs) (b ∷ bs)) P
     (λ d h. left_dark true bs c cs h)
-    (λ d. cond_both (is_white b) (after_gap false bs) (b ∷ bs) P (λ w h. left_dark false bs c cs h) (λ w h. let same : b ≡ c = cc in subst (λ (x : ℕ). is_white x ≡ false) same w)) e
+    (λ d. cond_both (is_white b) (after_gap false bs) (b ∷ bs) P (λ w h. left_dark false bs c cs h) (λ w h. same_dark b c bs cs h (record { white = w; dashes = d }))) e
