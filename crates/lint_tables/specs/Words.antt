@@ -1,5 +1,5 @@
 -- Words in a fixed order, looked up without regard to the case of ASCII letters.
-use Rattle.std.specs.Prelude.{ℕ, Bool, List, Option, position, map, codes, [], ◌∷◌, ◌-◌, ◌&&◌, nat_le, if◌then◌else◌}
+use Rattle.std.specs.Prelude.{ℕ, List, Option, position, map, codes, [], ◌∷◌, ◌-◌, ◌&&◌, nat_le, if◌then◌else◌}
 use Rattle.std.specs.Str.{bytes_eq}
 
 -- an ASCII letter in upper case; any other byte as it is

@@ -1,7 +1,9 @@
 //! Laws of the tables. The functions do nothing: each contract is a law.
 ghost use Rattle.std.specs.Prelude.{◌≡◌, ◌<◌, ◌-◌, ℕ, ℤ, not, min, max, map};
+ghost use Rattle.std.specs.List.{range_with_len};
 ghost use Rattle.lint_tables.specs.Grid.{cell_at};
 ghost use Rattle.lint_tables.specs.Operators.{is_related, negation, mirror};
+ghost use Rattle.lint_tables.specs.Words.{upper, place_of, reserved};
 ghost use Rattle.lint_tables.specs.declared.op.Op.{Op as Operator};
 
 use crate::grid::{AND_GRID, NOT_GRID, OR_GRID};
@@ -21,3 +23,8 @@ pub fn operators_change_sides()
     ensures mirror { (op : Operator) (a b : ℤ) → is_related (mirror op) a b ≡ is_related op b a }
 {}
 
+/// The reserved words are in upper case, and each is found at its own place, so that none stands twice.
+pub fn reserved_words_stand_once()
+    ensures upper { map (map upper) reserved ≡ reserved }
+    ensures place { map (place_of reserved) reserved ≡ map (λ place. Some place) (range_with_len 0 44) }
+{}

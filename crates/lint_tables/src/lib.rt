@@ -1,8 +1,9 @@
 //! Small tables that others look things up in: the three-valued AND, OR and NOT as grids of numbers,
 //! fixed lists of words with the reserved words of SQL, and the comparison operators.
 //!
-//! The layer above may use every public item. Of `specs/` a reader must believe `Grid`, `Words` and
-//! `Operators`; `laws` proves of the constants and of the operators what they are for.
+//! The layer above may use every public item; it looks a keyword up by `RESERVED.find`. Of `specs/` a
+//! reader must believe `Grid`, `Words` and `Operators`; `laws` proves of the grids, of the operators and of
+//! the reserved words what they are for.
 #![tactic(auto)]
 
 mod fixed;
@@ -10,7 +11,94 @@ mod grid;
 mod laws;
 mod op;
 
-pub use fixed::{Fixed, RESERVED};
+pub use fixed::{Fixed, RESERVED, reserved_words};
 pub use grid::{AND_GRID, Grid, NOT_GRID, OR_GRID};
-pub use laws::{grids_are_truth_tables, operators_change_sides};
+pub use laws::{grids_are_truth_tables, operators_change_sides, reserved_words_stand_once};
 pub use op::Op;
+
+#[cfg(test)]
+mod tests {
+    use super::*;
+
+    #[test]
+    fn reserved_words_are_found_in_any_case(rt: HostRuntime) {
+        let words = [
+            "all",
+            "And",
+            "aNY",
+            "as",
+            "BETWEEN",
+            "bY",
+            "Case",
+            "check",
+            "ConStraint",
+            "create",
+            "CROSS",
+            "Distinct",
+            "except",
+            "eXists",
+            "foreign",
+            "From",
+            "FULL",
+            "group",
+            "Having",
+            "iN",
+            "inner",
+            "InterSect",
+            "is",
+            "Join",
+            "LEFT",
+            "like",
+            "Natural",
+            "not",
+            "Null",
+            "oN",
+            "or",
+            "Order",
+            "OUTER",
+            "primary",
+            "References",
+            "right",
+            "Select",
+            "some",
+            "TABLE",
+            "union",
+            "Unique",
+            "using",
+            "wherE",
+            "With",
+        ];
+        for (place, word) in words.iter().enumerate() {
+            assert_eq!(rt; RESERVED.find(word.as_bytes()), Some(place), "{word}");
+            assert_eq!(rt;
+                reserved_words().find(word.as_bytes()),
+                Some(place),
+                "{word}"
+            );
+        }
+        for word in [
+            "", "al", "alll", "selected", "an d", "customer", "`ND", "{ITH", "\u{1}S",
+        ] {
+            assert_eq!(rt; RESERVED.find(word.as_bytes()), None, "{word}");
+        }
+    }
+
+    #[test]
+    fn operators_and_grids(rt: HostRuntime) {
+        let operators = [
+            (Op::Eq, Op::Ne, Op::Eq),
+            (Op::Ne, Op::Eq, Op::Ne),
+            (Op::Lt, Op::Ge, Op::Gt),
+            (Op::Le, Op::Gt, Op::Ge),
+            (Op::Gt, Op::Le, Op::Lt),
+            (Op::Ge, Op::Lt, Op::Le),
+        ];
+        for (operator, negated, mirrored) in operators {
+            assert_eq!(rt; operator.negated(), negated);
+            assert_eq!(rt; operator.mirrored(), mirrored);
+        }
+        assert_eq!(rt; AND_GRID.at(1, 2), 1);
+        assert_eq!(rt; OR_GRID.at(1, 2), 2);
+        assert_eq!(rt; NOT_GRID.at(0, 1), 1);
+    }
+}
