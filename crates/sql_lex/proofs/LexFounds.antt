@@ -147,7 +147,7 @@ other_quote mark quote other = grind (arith, nat_tests)
 
 nothing_in : (bytes : List ℕ) → eqb (length bytes) 0 ≡ true → bytes ≡ []
 nothing_in [] e = refl
-nothing_in (b ∷ bs) e = absurd cc
+nothing_in (b ∷ bs) e = let none = eqb-true _ _ e in absurd (omega arith)
 
 -- characters are spelled by bytes
 some_chars : (bytes : List ℕ) → IsUtf8 bytes → eqb (length bytes) 0 ≡ false → 0 < length (chars bytes)
@@ -228,8 +228,8 @@ pub record Plain (b : ℕ) : Type 0 where
 
 -- a byte that is no sign but `!`
 pub record NoSign (b : ℕ) : Type 0 where
-  pub open : eqb b 40 ≡ false
-  pub close : eqb b 41 ≡ false
+  pub opening : eqb b 40 ≡ false
+  pub closing : eqb b 41 ≡ false
   pub comma : eqb b 44 ≡ false
   pub dot : eqb b 46 ≡ false
   pub semicolon : eqb b 59 ≡ false
@@ -244,7 +244,7 @@ all_false : (v w x y z : Bool) → v ≡ false → w ≡ false → x ≡ false �
 all_false v w x y z a b c d e = rw (a, b, c, d, e) refl
 
 no_sign : (b : ℕ) → NoSign b → list_any (eqb b) (codes "(),.;*+-=<>") ≡ false
-no_sign b n = rw (n.open, n.close, n.comma, n.dot, n.semicolon, n.star, n.plus, n.minus, n.equal, n.less, n.greater) refl
+no_sign b n = rw (n.opening, n.closing, n.comma, n.dot, n.semicolon, n.star, n.plus, n.minus, n.equal, n.less, n.greater) refl
 
 bad_is : (b : ℕ) (bs : List ℕ) → Plain b → NoSign b → (eqb b 33 && not (begins_without (λ c. eqb c 61) bs)) ≡ false → IsFound (b ∷ bs) bad_byte
 bad_is b bs p n other = record {
@@ -280,7 +280,7 @@ sign_takes b bs p dark =
     cond_both (eqb b 61) _ _ P (λ t. sign_is b 61 bs (sign.Compare Eq) refl refl (eqb-true b 61 t)) (λ n9.
     cond_both (eqb b 60) _ _ P (λ t. less_takes b bs (eqb-true b 60 t)) (λ n10.
     cond_both (eqb b 62) _ _ P (λ t. greater_takes b bs (eqb-true b 62 t)) (λ n11.
-    let n : NoSign b = record { open = n1; close = n2; comma = n3; dot = n4; semicolon = n5; star = n6; plus = n7; minus = n8; equal = n9; less = n10; greater = n11 } in
+    let n : NoSign b = record { opening = n1; closing = n2; comma = n3; dot = n4; semicolon = n5; star = n6; plus = n7; minus = n8; equal = n9; less = n10; greater = n11 } in
     cond_both (eqb b 33) _ _ P (λ t. not_takes b bs p n (eqb-true b 33 t)) (λ m. bad_is b bs p n (rw m refl)))))))))))))
 
 -- what is found is what the grammar wants

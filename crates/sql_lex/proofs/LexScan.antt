@@ -1,5 +1,6 @@
 -- The loop of the lexer, over plain variables.
-use Rattle.std.proofs.Common.{◌≡◌, ◌≤◌, ◌<◌, ◌+◌, ◌-◌, ℕ, true, false, List, [], ◌∷◌, ◌++◌, length, take, drop, refl, sym, ap, subst, ◌∙◌, arith, append_assoc, length-append}
+use Rattle.std.proofs.Common.{◌≡◌, ◌≤◌, ◌<◌, ◌+◌, ◌-◌, ℕ, Bool, true, false, eqb, List, [], ◌∷◌, ◌++◌, length, take, drop, refl, sym, ap, subst, ◌∙◌, arith, append_assoc, length-append}
+use Rattle.std.proofs.lemmas.Bool.{eqb-true}
 use Rattle.std.proofs.lemmas.List.{take_rest, length-drop, length-take-le, take-append-drop}
 use Rattle.lint_base.specs.declared.place.Fault.{Fault}
 use Rattle.lint_base.specs.declared.place.Refusal.{Refusal}
@@ -91,3 +92,10 @@ scan_stops part from to tokens rest (b ∷ bs) f len reads e some is =
       to = omega arith;
       count = refl;
     }
+
+pub nonempty : (r : Bool) (xs : List ℕ) → r ≡ eqb (length xs) 0 → r ≡ false → 0 < length xs
+nonempty r [] e f = let is : true ≡ false = sym e ∙ f in absurd cc
+nonempty r (x ∷ xs) e f = omega arith
+
+pub empty : (r : Bool) (xs : List ℕ) → r ≡ eqb (length xs) 0 → r ≡ true → length xs ≡ 0
+empty r xs e t = eqb-true (length xs) 0 (sym e ∙ t)

@@ -1,6 +1,6 @@
 //! Words and numbers.
 ghost use Rattle.std.specs.Prelude.{◌≡◌, ◌∷◌, [], ◌≤◌, not, length, map, take, position, IfOk};
-ghost use Rattle.lint_tables.specs.Words.{upper, place_of, reserved};
+ghost use Rattle.lint_tables.specs.Words.{upper};
 ghost use Rattle.sql_lex.specs.Bytes.{is_digit, goes_on_word, decimal_value};
 ghost use Rattle.sql_lex.specs.Lexing.{front_len, word_found, within_limit, number_found};
 
@@ -8,6 +8,7 @@ use crate::lex_bytes::{goes_on_word, is_digit, upper};
 use crate::lex_found::Found;
 use crate::token::Kind;
 use lint_base::{Fault, NoMemory, Str};
+use lint_tables::RESERVED;
 use std::alloc::Global;
 
 fn word_end(text: &[u8]) -> Option<usize>
@@ -48,21 +49,13 @@ fn upper_case(alloc: Global, word: &[u8]) -> Result<Str, NoMemory>
     Str::from_str(alloc, text.as_str())
 }
 
-/// The place of a reserved word.
-fn reserved_place(word: &[u8]) -> Option<u16>
-    ensures { result ≡ place_of reserved word.now }
-{
-    let _ = word;
-    None
-}
-
 /// The word at the front of the text.
 pub(crate) fn first_word(alloc: Global, text: &[u8]) -> Result<Found, NoMemory>
     ensures { IfOk result (λ found. found ≡ word_found (take (front_len goes_on_word text.now) text.now)) }
 {
     let word = &text[..word_len(text)];
-    let kind = match reserved_place(word) {
-        Some(place) => Kind::Reserved(place),
+    let kind = match RESERVED.find(word) {
+        Some(place) => Kind::Reserved(place as u16),
         None => Kind::Name {
             text: upper_case(alloc, word)?,
             quoted: false,

@@ -17,6 +17,7 @@ use std::alloc::Global;
 /// The token at the front of the text, or the fault in its place.
 #[tactic(auto, unfolding(crate::specs::Lexing::first_found))]
 fn first_found(alloc: Global, text: &[u8]) -> Result<Found, NoMemory>
+    requires { length text.now < 2 ^ 32 }
     ensures { IfOk result (λ found. found ≡ first_found text.now) }
 {
     match text {
