@@ -3,6 +3,7 @@ pub mod LexSpelling
 pub mod LexGaps
 pub mod LexQuotes
 pub mod LexFounds
-pub mod LexAgain
-pub mod LexSteps
 pub mod LexScan
+pub mod LexAgain
+pub mod LexFaults
+pub mod LexSteps
