@@ -1,32 +1,28 @@
 -- The token or the fault of the grammar is what is found at the front of a text.
-use Rattle.std.proofs.Common.{◌≡◌, ◌≤◌, ◌<◌, ◌+◌, ◌-◌, ℕ, ℤ, pos, suc, Bool, true, false, cond, not, ◌||◌, ◌&&◌, eqb, List, [], ◌∷◌, ◌++◌, length, take, drop, map, refl, sym, ap, subst, ◌∙◌, arith, inl, inr, ◌⊎◌, length-append, append_assoc}
-use Rattle.std.specs.Prelude.{Option, Some, None, codes}
+use Rattle.std.proofs.Common.{◌≡◌, ◌≤◌, ◌<◌, ◌+◌, ◌-◌, ℕ, ℤ, pos, suc, true, false, eqb, List, [], ◌∷◌, ◌++◌, length, take, map, refl, sym, ap, subst, ◌∙◌, arith, inl, inr, append_assoc}
+use Rattle.std.specs.Prelude.{Option, Some, None}
 use Rattle.std.specs.Option.{option_map_or}
-use Rattle.std.specs.List.{list_all, list_any}
-use Rattle.std.specs.Str.{chars, IsUtf8, is_utf8}
-use Rattle.std.proofs.lemmas.Bool.{eqb-true, and_parts, or_parts, or_cases, and_cases, not-true, not-false, le-leb, lt-leb, eq-eqb, false_from_ne_true}
+use Rattle.std.specs.List.{list_all}
+use Rattle.std.specs.Str.{chars, IsUtf8}
+use Rattle.std.proofs.lemmas.Bool.{eqb-true, and_parts, or_parts, not-true, le-leb, lt-leb, false_from_ne_true}
 use Rattle.std.proofs.lemmas.Bool.Decides.{nat_tests}
 use Rattle.std.proofs.lemmas.List.{take_at}
-use Rattle.std.proofs.lemmas.Str.{IsUtf8-from_is_utf8, is_utf8-from_IsUtf8, chars-nil}
-use Rattle.lint_base.specs.declared.place.Fault.{Fault}
+use Rattle.std.proofs.lemmas.Str.{is_utf8-from_IsUtf8, chars-nil}
 use Rattle.lint_base.specs.declared.place.Fault.TheVariants as fault
-use Rattle.lint_tables.specs.Words.{upper, place_of, reserved}
+use Rattle.lint_tables.specs.Words.{upper}
 use Rattle.lint_tables.specs.declared.op.Op.TheVariants.{Eq, Ne, Lt, Le, Gt, Ge}
 use Rattle.sql_lex.specs.declared.token.Sign.{Sign as SignOf}
 use Rattle.sql_lex.specs.declared.token.Sign.TheVariants as sign
 use Rattle.sql_lex.specs.declared.token.Kind.{Kind}
 use Rattle.sql_lex.specs.declared.token.Kind.TheVariants as kind
-use Rattle.sql_lex.specs.declared.lex_found.Found.{Found}
 use Rattle.sql_lex.specs.declared.lex_found.Found.TheVariants.{Lexeme, Flaw}
 use Rattle.sql_lex.specs.Bytes.{is_white, is_letter, is_digit, is_quote, goes_on_word, decimal_value}
-use Rattle.sql_lex.specs.Classes.{begins_with_dash}
 use Rattle.sql_lex.specs.Tokens.{IsSpelling, IsSign, IsWord, IsQuoted, IsDigits, ends_before, sign_ends_before, begins_without, doubled}
-use Rattle.sql_lex.specs.Faults.{IsFault, IsBadQuoted, begins_sign}
-use Rattle.sql_lex.specs.Lexing.{after_gap, front_len, bad_byte, word_found, within_limit, number_found, unquoted, closed_found, quoted_found, sign_found, less_found, greater_found, not_found, sign_at, first_found}
+use Rattle.sql_lex.specs.Lexing.{after_gap, front_len, word_found, within_limit, number_found, closed_found, quoted_found, sign_found, less_found, greater_found, first_found}
 use Rattle.sql_lex.proofs.LexFront.{front_of}
-use Rattle.sql_lex.proofs.LexGaps.{Dark, dark_byte}
-use Rattle.sql_lex.proofs.LexQuotes.{unquoted_takes, unquoted_again, other_side}
-use Rattle.sql_lex.proofs.LexFounds.{letter_goes, quote_body, quote_len, NoSign}
+use Rattle.sql_lex.proofs.LexGaps.{dark_byte}
+use Rattle.sql_lex.proofs.LexQuotes.{unquoted_again}
+use Rattle.sql_lex.proofs.LexFounds.{letter_goes, quote_len}
 
 digit_apart : (b : ℕ) → is_digit b ≡ true → is_letter b ≡ false
 digit_apart b e = grind (arith, nat_tests)

@@ -1,19 +1,17 @@
 -- The fault of the grammar is what is found at the front of a text.
-use Rattle.std.proofs.Common.{◌≡◌, ◌<◌, ◌+◌, ℕ, Bool, true, false, not, ◌||◌, ◌&&◌, eqb, List, [], ◌∷◌, ◌++◌, length, refl, sym, ap, subst, ◌∙◌, arith, inl, inr, ◌⊎◌}
-use Rattle.std.specs.Prelude.{Option, Some, None, codes}
-use Rattle.std.specs.Option.{option_map_or}
+use Rattle.std.proofs.Common.{◌≡◌, ℕ, Bool, true, false, not, ◌||◌, ◌&&◌, eqb, List, [], ◌∷◌, ◌++◌, refl, sym, ap, subst, ◌∙◌, inl, inr, ◌⊎◌}
+use Rattle.std.specs.Prelude.{Some, None, codes}
 use Rattle.std.specs.List.{list_any}
-use Rattle.std.specs.Str.{chars, IsUtf8, is_utf8}
-use Rattle.std.proofs.lemmas.Bool.{eqb-true, or_parts, not-false, cond_both, eq-eqb, false_from_ne_true}
+use Rattle.std.specs.Str.{IsUtf8, is_utf8}
+use Rattle.std.proofs.lemmas.Bool.{or_parts, false_from_ne_true}
 use Rattle.std.proofs.lemmas.Str.{IsUtf8-from_is_utf8}
 use Rattle.lint_base.specs.declared.place.Fault.{Fault}
 use Rattle.lint_base.specs.declared.place.Fault.TheVariants as fault
-use Rattle.sql_lex.specs.declared.lex_found.Found.{Found}
-use Rattle.sql_lex.specs.declared.lex_found.Found.TheVariants.{Lexeme, Flaw}
+use Rattle.sql_lex.specs.declared.lex_found.Found.TheVariants.{Flaw}
 use Rattle.sql_lex.specs.Bytes.{is_white, is_letter, is_digit, is_quote}
 use Rattle.sql_lex.specs.Tokens.{begins_without, doubled}
 use Rattle.sql_lex.specs.Faults.{IsFault, IsBadQuoted, begins_sign}
-use Rattle.sql_lex.specs.Lexing.{bad_byte, unquoted, closed_found, quoted_found, not_found, sign_at, first_found}
+use Rattle.sql_lex.specs.Lexing.{bad_byte, unquoted, closed_found, not_found, sign_at, first_found}
 use Rattle.sql_lex.proofs.LexQuotes.{unquoted_takes, other_side}
 use Rattle.sql_lex.proofs.LexFounds.{NoSign}
 use Rattle.sql_lex.proofs.LexAgain.{quote_first, quote_again, quote_white, quote_dash, number_again, number_flaw, Begun, begun, begun_number}

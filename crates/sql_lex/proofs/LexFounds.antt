@@ -1,13 +1,13 @@
 -- What is found at the front of a text is the token or the fault of the grammar.
-use Rattle.std.proofs.Common.{◌≡◌, ◌≢◌, ◌≤◌, ◌<◌, ◌+◌, ◌-◌, ℕ, ℤ, pos, suc, Bool, true, false, cond, not, ◌||◌, ◌&&◌, eqb, leb, List, [], ◌∷◌, ◌++◌, length, take, drop, map, refl, sym, ap, subst, ◌∙◌, arith, inl, inr, ◌⊎◌, length-append, append_assoc}
+use Rattle.std.proofs.Common.{◌≡◌, ◌≤◌, ◌<◌, ◌+◌, ◌-◌, ℕ, pos, suc, Bool, true, false, cond, not, ◌||◌, ◌&&◌, eqb, leb, List, [], ◌∷◌, ◌++◌, length, take, drop, map, refl, sym, ap, subst, ◌∙◌, arith, inl, inr, ◌⊎◌, length-append, append_assoc}
 use Rattle.std.specs.Prelude.{Option, Some, None, codes}
 use Rattle.std.specs.Option.{option_map_or}
-use Rattle.std.specs.List.{list_all, list_any}
+use Rattle.std.specs.List.{list_any}
 use Rattle.std.specs.Str.{chars, encode_utf8_all, IsUtf8, is_utf8}
-use Rattle.std.proofs.lemmas.Bool.{eqb-true, or_left, cond_both, and_parts, or_parts, and_right, leb-false, lt-leb, not-true, le-leb, false_from_ne_true, eq-eqb}
+use Rattle.std.proofs.lemmas.Bool.{eqb-true, or_left, cond_both, and_right, leb-false}
 use Rattle.std.proofs.lemmas.Bool.Decides.{nat_tests}
 use Rattle.std.proofs.lemmas.List.{length-take-le, take_at, drop_at, take-append-drop}
-use Rattle.std.proofs.lemmas.Str.{IsUtf8-from_is_utf8, is_utf8-from_IsUtf8, chars-nil, encodes-chars}
+use Rattle.std.proofs.lemmas.Str.{IsUtf8-from_is_utf8, is_utf8-from_IsUtf8, encodes-chars}
 use Rattle.lint_base.specs.declared.place.Fault.{Fault}
 use Rattle.lint_base.specs.declared.place.Fault.TheVariants as fault
 use Rattle.lint_tables.specs.Words.{upper, place_of, reserved}
@@ -20,8 +20,8 @@ use Rattle.sql_lex.specs.declared.lex_found.Found.{Found}
 use Rattle.sql_lex.specs.declared.lex_found.Found.TheVariants.{Lexeme, Flaw}
 use Rattle.sql_lex.specs.Bytes.{is_white, is_letter, is_digit, is_quote, goes_on_word, decimal_value}
 use Rattle.sql_lex.specs.Classes.{begins_with_dash}
-use Rattle.sql_lex.specs.Tokens.{IsSpelling, IsSign, IsQuoted, IsDigits, ends_before, sign_ends_before, begins_without, doubled}
-use Rattle.sql_lex.specs.Faults.{IsFault, IsBadQuoted, begins_sign}
+use Rattle.sql_lex.specs.Tokens.{IsSpelling, IsSign, IsDigits, ends_before, sign_ends_before, begins_without, doubled}
+use Rattle.sql_lex.specs.Faults.{IsFault, begins_sign}
 use Rattle.sql_lex.specs.Lexing.{front_len, bad_byte, word_found, within_limit, number_found, unquoted, closed_found, quoted_found, sign_found, less_found, greater_found, not_found, sign_at, first_found}
 use Rattle.sql_lex.proofs.LexGaps.{Dark}
 use Rattle.sql_lex.proofs.LexFront.{front_len-le, front_passes, front_stops}
@@ -163,16 +163,16 @@ closed_takes mark bytes behind rest len quote whole closed is =
     let P : Found → Type 0 = IsFound (mark ∷ rest) in
     cond_both (is_utf8 bytes) _ _ P
     (λ good. cond_both (eqb mark 39) _ _ P
-      (λ text. let m : mark ≡ 39 = eqb-true mark 39 text in
-        quoted_lexeme mark bytes behind rest (kind.Text (chars bytes)) len whole is
-        (record { bytes = bytes; whole = ap (λ (x : ℕ). x ∷ doubled x bytes ++ x ∷ []) m; utf8 = IsUtf8-from_is_utf8 bytes good; characters = refl })
-        (ap (λ (x : ℕ). begins_without (λ b. eqb b x) behind) (sym m) ∙ closed))
-      (λ name. let m : mark ≡ 34 = other_quote mark quote name in
-        cond_both (eqb (length bytes) 0) _ _ P
-        (λ none. bad_quoted mark bytes behind rest quote whole closed (inr (m, nothing_in bytes none)))
-        (λ some. quoted_lexeme mark bytes behind rest (kind.Name (chars bytes) true) len whole is
-          (record { bytes = bytes; whole = ap (λ (x : ℕ). x ∷ doubled x bytes ++ x ∷ []) m; utf8 = IsUtf8-from_is_utf8 bytes good; characters = refl }, some_chars bytes (IsUtf8-from_is_utf8 bytes good) some)
-          (ap (λ (x : ℕ). begins_without (λ b. eqb b x) behind) (sym m) ∙ closed))))
+    (λ text. let m : mark ≡ 39 = eqb-true mark 39 text in
+    quoted_lexeme mark bytes behind rest (kind.Text (chars bytes)) len whole is
+    (record { bytes = bytes; whole = ap (λ (x : ℕ). x ∷ doubled x bytes ++ x ∷ []) m; utf8 = IsUtf8-from_is_utf8 bytes good; characters = refl })
+    (ap (λ (x : ℕ). begins_without (λ b. eqb b x) behind) (sym m) ∙ closed))
+    (λ name. let m : mark ≡ 34 = other_quote mark quote name in
+    cond_both (eqb (length bytes) 0) _ _ P
+    (λ none. bad_quoted mark bytes behind rest quote whole closed (inr (m, nothing_in bytes none)))
+    (λ some. quoted_lexeme mark bytes behind rest (kind.Name (chars bytes) true) len whole is
+    (record { bytes = bytes; whole = ap (λ (x : ℕ). x ∷ doubled x bytes ++ x ∷ []) m; utf8 = IsUtf8-from_is_utf8 bytes good; characters = refl }, some_chars bytes (IsUtf8-from_is_utf8 bytes good) some)
+    (ap (λ (x : ℕ). begins_without (λ b. eqb b x) behind) (sym m) ∙ closed))))
     (λ bad. bad_quoted mark bytes behind rest quote whole closed (inl (λ good. let clash : true ≡ false = sym (is_utf8-from_IsUtf8 bytes good) ∙ bad in absurd cc)))
 
 -- a quote that is not closed
@@ -248,8 +248,11 @@ no_sign b n = rw (n.opening, n.closing, n.comma, n.dot, n.semicolon, n.star, n.p
 
 bad_is : (b : ℕ) (bs : List ℕ) → Plain b → NoSign b → (eqb b 33 && not (begins_without (λ c. eqb c 61) bs)) ≡ false → IsFound (b ∷ bs) bad_byte
 bad_is b bs p n other = record {
-  is_fault = (refl, inl (all_false (is_white b) (is_letter b) (is_digit b) (is_quote b) (begins_sign b bs) p.white p.letter p.digit p.quote
-  (let none = no_sign b n in rw (none, other) refl)));
+  is_fault = (
+    refl,
+    inl (all_false (is_white b) (is_letter b) (is_digit b) (is_quote b) (begins_sign b bs) p.white p.letter p.digit p.quote
+        (let none = no_sign b n in rw (none, other) refl)),
+  );
   within = one_within b bs;
 }
 

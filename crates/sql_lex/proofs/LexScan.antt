@@ -1,9 +1,8 @@
 -- The loop of the lexer, over plain variables.
 use Rattle.std.proofs.Common.{◌≡◌, ◌≤◌, ◌<◌, ◌+◌, ◌-◌, ℕ, Bool, true, false, eqb, List, [], ◌∷◌, ◌++◌, length, take, drop, refl, sym, ap, subst, ◌∙◌, arith, append_assoc, length-append}
 use Rattle.std.proofs.lemmas.Bool.{eqb-true}
-use Rattle.std.proofs.lemmas.List.{take_rest, length-drop, length-take-le, take-append-drop}
+use Rattle.std.proofs.lemmas.List.{length-drop, length-take-le, take-append-drop}
 use Rattle.lint_base.specs.declared.place.Fault.{Fault}
-use Rattle.lint_base.specs.declared.place.Refusal.{Refusal}
 use Rattle.sql_lex.specs.declared.token.Token.{Token}
 use Rattle.sql_lex.specs.declared.token.Kind.{Kind}
 use Rattle.sql_lex.specs.declared.lex_found.Found.{Found}
@@ -12,7 +11,7 @@ use Rattle.sql_lex.specs.Tokens.{Begins, BeginsWith, Spells}
 use Rattle.sql_lex.specs.Faults.{IsFaulty}
 use Rattle.sql_lex.specs.Lexing.{after_gap, first_found}
 use Rattle.sql_lex.proofs.LexGaps.{after_gap-le, gap_takes, last_takes, left_dark}
-use Rattle.sql_lex.proofs.LexFounds.{IsFound, IsLexeme, IsFlaw, found_takes}
+use Rattle.sql_lex.proofs.LexFounds.{IsFound, IsLexeme, found_takes}
 
 pub begins_more : (at : ℕ) (text : List ℕ) (tokens : List Token) (rest : List ℕ) (end : ℕ) (token : Token) (next : List ℕ) → BeginsWith at text tokens rest end → Begins end rest token next
     → BeginsWith at text (tokens ++ token ∷ []) next token.span.to

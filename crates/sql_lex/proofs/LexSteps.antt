@@ -3,14 +3,13 @@ use Rattle.std.proofs.Common.{◌≡◌, ◌<◌, ◌+◌, ℕ, false, true, Lis
 use Rattle.std.proofs.lemmas.List.{drop_at}
 use Rattle.lint_base.specs.declared.place.Fault.{Fault}
 use Rattle.lint_base.specs.declared.place.Refusal.{Refusal}
-use Rattle.lint_base.specs.declared.place.Span.{Span}
 use Rattle.sql_lex.specs.declared.token.Kind.{Kind}
 use Rattle.sql_lex.specs.declared.token.Token.{Token}
 use Rattle.sql_lex.specs.declared.lex_found.Found.{Found}
 use Rattle.sql_lex.specs.declared.lex_found.Found.TheVariants.{Lexeme, Flaw}
 use Rattle.sql_lex.specs.Gaps.{is_gap, is_last_gap}
 use Rattle.sql_lex.specs.Tokens.{Begins, BeginsWith, Spells}
-use Rattle.sql_lex.specs.Faults.{IsFaulty, IsFault}
+use Rattle.sql_lex.specs.Faults.{IsFaulty}
 use Rattle.sql_lex.specs.Lexing.{after_gap, first_found}
 use Rattle.sql_lex.proofs.LexGaps.{gap_again, last_again}
 use Rattle.sql_lex.proofs.LexAgain.{found_again, token_begun}

@@ -1,15 +1,13 @@
 -- The first token of a text, or the fault in its place, as the lexer finds it. What to believe is the grammar
 -- in Gaps, Tokens and Faults: proofs/ shows that a token or a fault is found here exactly where they have it.
-use Rattle.std.specs.Prelude.{ℕ, suc, pos, ◌+◌, ◌-◌, Bool, true, false, ◌&&◌, ◌||◌, nat_eq, nat_le, List, [], ◌∷◌, ◌++◌, length, map, take, Option, Some, None, option_map, option_and_then, if◌then◌else◌}
+use Rattle.std.specs.Prelude.{ℕ, suc, pos, ◌+◌, ◌-◌, Bool, true, false, ◌&&◌, nat_eq, nat_le, List, [], ◌∷◌, ◌++◌, length, map, take, Option, Some, None, option_map, if◌then◌else◌}
 use Rattle.std.specs.Option.{option_map_or}
 use Rattle.std.specs.Str.{chars, is_utf8}
-use Rattle.lint_base.specs.declared.place.Fault.{Fault}
 use Rattle.lint_base.specs.declared.place.Fault.TheVariants as fault
 use Rattle.lint_tables.specs.Words.{upper, place_of, reserved}
 use Rattle.lint_tables.specs.declared.op.Op.TheVariants.{Eq, Ne, Lt, Le, Gt, Ge}
 use Rattle.sql_lex.specs.declared.token.Sign.{Sign as SignOf}
 use Rattle.sql_lex.specs.declared.token.Sign.TheVariants as sign
-use Rattle.sql_lex.specs.declared.token.Kind.{Kind}
 use Rattle.sql_lex.specs.declared.token.Kind.TheVariants as kind
 use Rattle.sql_lex.specs.declared.lex_found.Found.{Found}
 use Rattle.sql_lex.specs.declared.lex_found.Found.TheVariants.{Lexeme, Flaw}
@@ -59,7 +57,7 @@ number_found digits =
 abbrev pub closed_found : ℕ → List ℕ → ℕ → Found
 closed_found mark bytes len =
     if is_utf8 bytes then (if nat_eq mark 39 then Lexeme (kind.Text (chars bytes)) len
-        else (if nat_eq (length bytes) 0 then bad_byte else Lexeme (kind.Name (chars bytes) true) len))
+    else (if nat_eq (length bytes) 0 then bad_byte else Lexeme (kind.Name (chars bytes) true) len))
     else bad_byte
 
 -- after an opening quote

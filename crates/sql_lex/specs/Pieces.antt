@@ -1,14 +1,13 @@
 -- The pieces of a file: the parts between its separators, each from its first to its last solid byte; parts
 -- without one are left out.
-use Rattle.std.specs.Prelude.{ℕ, ◌+◌, List, [], ◌∷◌, ◌++◌, length, Option, Some, None}
+use Rattle.std.specs.Prelude.{ℕ, ◌+◌, List, [], ◌∷◌, ◌++◌}
 use Rattle.lint_base.specs.declared.place.Span.{Span}
-use Rattle.sql_lex.specs.Classes.{Class, Blank, Solid, Separator, Inside, Nothing, classes}
+use Rattle.sql_lex.specs.Classes.{Class, Blank, Solid, Separator, Nothing, classes}
 
 -- a part: where it begins, and its bytes' classes
 pub record Part : Type 0 where
   pub from : ℕ
   pub inside : List Class
-
 
 -- the parts between separators, from an offset on; `so_far` is the part that has begun at `from`
 abbrev pub parts_from : ℕ → List Class → ℕ → List Class → List Part

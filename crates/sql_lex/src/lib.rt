@@ -5,7 +5,6 @@
 //! (which refusal comes first).
 #![tactic(auto)]
 
-mod lexer;
 mod lex_bytes;
 mod lex_found;
 mod lex_gap;
@@ -13,8 +12,12 @@ mod lex_laws;
 mod lex_quote;
 mod lex_sign;
 mod lex_word;
+mod lexer;
 mod token;
 
-pub use lexer::lex;
 pub use lex_laws::one_lexing;
+pub use lexer::lex;
 pub use token::{Kind, Sign, Token};
+
+#[cfg(test)]
+mod lex_tests;

@@ -1,4 +1,4 @@
-use Rattle.std.proofs.Common.{◌≡◌, ◌≤◌, ◌-◌, length, drop, slice_range, List, ℕ, sym, subst, ◌∙◌, arith}
+use Rattle.std.proofs.Common.{◌≡◌, ◌-◌, length, slice_range, List, ℕ, sym, subst, ◌∙◌, arith}
 use Rattle.std.proofs.lemmas.List.{take_rest, length-drop}
 use Rattle.sql_lex.specs.declared.lex_found.Found.TheVariants.{Lexeme, Flaw}
 use Rattle.sql_lex.proofs.LexScan.{Reads, nonempty, empty, front_found, scan_more, scan_ends, scan_stops}
@@ -72,7 +72,7 @@ loop-inner-preserved c =
     let part = slice_range c.args.text.now c.args.part.from c.args.part.to in
     subst (λ (x : List ℕ). Reads part c.args.part.from c.args.part.to c.push.new.self.items x) (sym (take_rest inner c.in-Lexeme.len))
     (scan_more part c.args.part.from c.args.part.to c.loop-inner.tokens.items c.push.new.self.items rest inner c.in-Lexeme.kind c.in-Lexeme.len
-      c.loop-inner.invariant is_gap some (sym c.in-Lexeme.is ∙ c.in_ok-kind.ensures) c.in_ok-push-in-Lexeme.ensures.items)
+    c.loop-inner.invariant is_gap some (sym c.in-Lexeme.is ∙ c.in_ok-kind.ensures) c.in_ok-push-in-Lexeme.ensures.items)
 
 pub overflow_cast-to-in-Flaw : goal.overflow_cast-to-in-Flaw
 overflow_cast-to-in-Flaw c =
