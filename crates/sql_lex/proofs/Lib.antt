@@ -1,1 +1,10 @@
 pub mod PartLemmas
+pub mod LexFront
+pub mod LexSpelling
+pub mod LexGaps
+pub mod LexQuotes
+pub mod LexFounds
+pub mod LexScan
+pub mod LexAgain
+pub mod LexFaults
+pub mod LexSteps

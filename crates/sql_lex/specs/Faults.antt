@@ -1,11 +1,10 @@
 -- The first lexical fault of a text, from the left.
-use Rattle.std.specs.Prelude.{ℕ, ◌+◌, ◌<◌, ◌≡◌, ◌⊎◌, Bool, true, false, ◌&&◌, ◌||◌, not, nat_eq, List, [], ◌∷◌, ◌++◌, length, Contains, codes}
-use Rattle.std.specs.List.{list_any, list_all}
+use Rattle.std.specs.Prelude.{ℕ, ◌+◌, ◌<◌, ◌≡◌, ◌⊎◌, Bool, true, false, ◌&&◌, ◌||◌, not, nat_eq, List, [], ◌∷◌, ◌++◌, length, codes}
+use Rattle.std.specs.List.{list_any}
 use Rattle.std.specs.Str.{IsUtf8}
 use Rattle.lint_base.specs.declared.place.Fault.{Fault}
 use Rattle.lint_base.specs.declared.place.Fault.TheVariants as fault
 use Rattle.lint_base.specs.declared.place.Refusal.{Refusal}
-use Rattle.lint_base.specs.declared.place.Span.{Span}
 use Rattle.sql_lex.specs.declared.token.Token.{Token}
 use Rattle.sql_lex.specs.Bytes.{is_white, is_letter, is_digit, is_quote}
 use Rattle.sql_lex.specs.Gaps.{is_gap}
@@ -29,6 +28,18 @@ pub record IsBadQuoted (mark : ℕ) (text : List ℕ) : Type 0 where
 -- UTF-8, or a delimited name of no characters; a quote that is not closed; a number that is too great
 abbrev pub IsFault : Fault → List ℕ → ℕ → Type 0
 IsFault fault.NotBuilt text len = ⊥
+IsFault fault.Long text len = ⊥
+IsFault fault.Deep text len = ⊥
+IsFault fault.Syntax text len = ⊥
+IsFault fault.UnknownTable text len = ⊥
+IsFault fault.UnknownColumn text len = ⊥
+IsFault fault.AmbiguousColumn text len = ⊥
+IsFault fault.DuplicateName text len = ⊥
+IsFault fault.TypeMismatch text len = ⊥
+IsFault fault.NotAKey text len = ⊥
+IsFault fault.TooMany text len = ⊥
+IsFault fault.OneColumnNeeded text len = ⊥
+IsFault fault.BadLength text len = ⊥
 IsFault fault.BadByte [] len = ⊥
 IsFault fault.BadByte (b ∷ rest) len =
     (len ≡ 1) × (((is_white b || is_letter b || is_digit b || is_quote b || begins_sign b rest) ≡ false) ⊎ IsBadQuoted b rest)

@@ -6,3 +6,5 @@ pub mod Tokens
 pub mod Faults
 pub mod Seen
 pub mod Rest
+pub mod Refused
+pub mod Lexing

@@ -1,9 +1,8 @@
 -- How tokens are spelled (ISO/IEC 9075:1992, 5.2 and 5.3). The longest token is taken: what stands behind a
 -- token does not make it longer.
-use Rattle.std.specs.Prelude.{ℕ, ℤ, pos, ◌+◌, ◌≤◌, ◌<◌, ◌≡◌, ◌⊎◌, Bool, true, false, ◌&&◌, ◌||◌, not, nat_eq, List, [], ◌∷◌, ◌++◌, length, map, Some, None, if◌then◌else◌, codes}
+use Rattle.std.specs.Prelude.{ℕ, pos, ◌+◌, ◌≤◌, ◌<◌, ◌≡◌, ◌⊎◌, Bool, true, false, ◌||◌, not, nat_eq, List, [], ◌∷◌, ◌++◌, length, map, Some, None, if◌then◌else◌, codes}
 use Rattle.std.specs.List.{list_all, flat_map}
 use Rattle.std.specs.Str.{chars, IsUtf8}
-use Rattle.lint_base.specs.declared.place.Span.{Span}
 use Rattle.lint_tables.specs.Words.{upper, place_of, reserved}
 use Rattle.lint_tables.specs.declared.op.Op.TheVariants.{Eq, Ne, Lt, Le, Gt, Ge}
 use Rattle.sql_lex.specs.declared.token.Sign.{Sign as SignOf}

@@ -6,10 +6,23 @@
 #![tactic(auto)]
 
 mod classes;
+mod lex_bytes;
+mod lex_found;
+mod lex_gap;
+mod lex_laws;
+mod lex_quote;
+mod lex_sign;
+mod lex_word;
+mod lexer;
 mod pieces;
 mod split;
 mod token;
 
+pub use lex_laws::one_lexing;
+pub use lexer::lex;
 pub use pieces::Pieces;
 pub use split::split_queries;
 pub use token::{Kind, Sign, Token};
+
+#[cfg(test)]
+mod lex_tests;
