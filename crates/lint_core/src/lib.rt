@@ -1,7 +1,7 @@
 //! What sqllint speaks about: schemas, queries, databases, questions and their answers, and the
 //! definitions of what they mean.
 //!
-//! The layer above may use every public type. Of `specs/` a reader must believe `Schema` and `Fits`
+//! The layer above may use every public type, `Schema::new`, `Query::fits` and the copies. Of `specs/` a reader must believe `Schema` and `Fits`
 //! (which schemas and queries there are), `FirstForm` (which queries are read so far), `Domain`,
 //! `Database`, `Meets`, `Truth`, `Comparison`, `Condition` and `Question` (what SQL means),
 //! `Formula`, `Translation` and `Certificate` (what a certificate is), and `Answer` (when an answer

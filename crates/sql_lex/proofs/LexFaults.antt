@@ -91,7 +91,6 @@ open_again mark rest quote never =
 
 -- the fault that the grammar has is found
 pub fault_again : (f : Fault) (text : List ℕ) (len : ℕ) → IsFault f text len → first_found text ≡ Flaw f len
-fault_again fault.NotBuilt text len e = absurd e
 fault_again fault.BadByte [] len e = absurd e
 fault_again fault.BadByte (b ∷ rest) len (one, inl e) = byte_again b rest (bad_of b rest e) ∙ ap (λ (n : ℕ). Flaw fault.BadByte n) (sym one)
 fault_again fault.BadByte (b ∷ rest) len (one, inr q) = quoted_bad b rest q ∙ ap (λ (n : ℕ). Flaw fault.BadByte n) (sym one)
@@ -99,13 +98,14 @@ fault_again fault.OpenQuote [] len e = absurd e
 fault_again fault.OpenQuote (b ∷ rest) len (one, quote, never) = open_again b rest quote never ∙ ap (λ (n : ℕ). Flaw fault.OpenQuote n) (sym one)
 fault_again fault.BigNumber text len (body, behind, n, whole, count, digits, above, ends) =
     ap first_found whole ∙ number_again body behind n digits ends ∙ number_flaw body n digits above ∙ ap (λ (x : ℕ). Flaw fault.BigNumber x) count
+fault_again other text len e = absurd e
 
 -- a fault begins no gap
 pub fault_begun : (f : Fault) (text : List ℕ) (len : ℕ) → IsFault f text len → Begun text
-fault_begun fault.NotBuilt text len e = absurd e
 fault_begun fault.BadByte [] len e = absurd e
 fault_begun fault.BadByte (b ∷ rest) len (one, inl e) = let bad = bad_of b rest e in begun b rest bad.white bad.signs.minus
 fault_begun fault.BadByte (b ∷ rest) len (one, inr q) = begun b rest (quote_white b q.quote) (quote_dash b q.quote)
 fault_begun fault.OpenQuote [] len e = absurd e
 fault_begun fault.OpenQuote (b ∷ rest) len (one, quote, never) = begun b rest (quote_white b quote) (quote_dash b quote)
 fault_begun fault.BigNumber text len (body, behind, n, whole, count, digits, above, ends) = subst Begun (sym whole) (begun_number body behind n digits)
+fault_begun other text len e = absurd e

@@ -27,19 +27,6 @@ pub record IsBadQuoted (mark : ℕ) (text : List ℕ) : Type 0 where
 -- the text begins with this fault, of so many bytes: a byte that begins no token; a quoted token that is no
 -- UTF-8, or a delimited name of no characters; a quote that is not closed; a number that is too great
 abbrev pub IsFault : Fault → List ℕ → ℕ → Type 0
-IsFault fault.NotBuilt text len = ⊥
-IsFault fault.Long text len = ⊥
-IsFault fault.Deep text len = ⊥
-IsFault fault.Syntax text len = ⊥
-IsFault fault.UnknownTable text len = ⊥
-IsFault fault.UnknownColumn text len = ⊥
-IsFault fault.AmbiguousColumn text len = ⊥
-IsFault fault.DuplicateName text len = ⊥
-IsFault fault.TypeMismatch text len = ⊥
-IsFault fault.NotAKey text len = ⊥
-IsFault fault.TooMany text len = ⊥
-IsFault fault.OneColumnNeeded text len = ⊥
-IsFault fault.BadLength text len = ⊥
 IsFault fault.BadByte [] len = ⊥
 IsFault fault.BadByte (b ∷ rest) len =
     (len ≡ 1) × (((is_white b || is_letter b || is_digit b || is_quote b || begins_sign b rest) ≡ false) ⊎ IsBadQuoted b rest)
@@ -47,6 +34,8 @@ IsFault fault.OpenQuote [] len = ⊥
 IsFault fault.OpenQuote (b ∷ rest) len = (len ≡ 1) × (is_quote b ≡ true) × ((bytes behind : List ℕ) → rest ≡ doubled b bytes ++ b ∷ behind → begins_without (nat_eq b) behind ≡ true → ⊥)
 IsFault fault.BigNumber text len =
     (body : List ℕ) × (behind : List ℕ) × (n : ℕ) × (text ≡ body ++ behind) × (length body ≡ len) × IsDigits body n × (9223372036854775807 < n) × (begins_without is_digit behind ≡ true)
+-- no other fault is one of spelling
+IsFault other text len = ⊥
 
 -- from an offset on the text is tokens, a gap, and then this fault
 pub record IsFaulty (at : ℕ) (text : List ℕ) (refusal : Refusal) : Type 0 where
