@@ -1,12 +1,12 @@
 //! What sqllint speaks about: schemas, queries, databases, questions and their answers, and the
 //! definitions of what they mean.
 //!
-//! The layer above may use every public type, `Schema::new`, `Query::fits` and the copies. Of `specs/` a reader must believe `Schema` and `Fits`
-//! (which schemas and queries there are), `FirstForm` (which queries are read so far), `Domain`,
-//! `Database`, `Meets`, `Truth`, `Comparison`, `Condition` and `Question` (what SQL means),
-//! `Formula`, `Translation` and `Certificate` (what a certificate is), and `Answer` (when an answer
-//! is right). The laws that join them are contracts of functions that do nothing:
-//! `formula_says_truth` (the formula of a condition holds exactly where it is true),
+//! The layer above may use every public type, `Schema::new`, `Query::fits` and the copies. Of `specs/`
+//! a reader must believe `Schema` and `Fits` (which schemas and queries there are), `FirstForm` (which
+//! queries are read so far), `Domain`, `Database`, `Meets`, `Truth`, `Comparison`, `Condition` and
+//! `Question` (what SQL means), `Formula`, `Translation` and `Certificate` (what a certificate is), and
+//! `Answer` (when an answer is right). The laws that join them are contracts of functions that do
+//! nothing: `formula_says_truth` (the formula of a condition holds exactly where it is true),
 //! `sentence_says_failure` (the sentence of a question holds exactly where some points refute it),
 //! `accepted_steps_refute` (a sentence that accepted steps refute holds in no database of the
 //! schema), and `certified_question_holds`, which follows from these. The queries and conditions that
