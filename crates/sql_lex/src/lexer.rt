@@ -28,8 +28,15 @@ fn first_found(alloc: Global, text: &[u8]) -> Result<Found, NoMemory>
     }
 }
 
-/// The tokens of the part of the text, in order, with their places in the whole text. The first lexical
-/// fault from the left refuses it; `NoMemory` comes where memory runs out.
+/// The tokens of a part of a text, in order, each with its place in the whole text, by byte offsets. Where
+/// the part has a lexical fault, the first from the left refuses it:
+///
+/// - `BadByte` at a byte that begins no token, or at the opening quote of a closed quoted token that is no
+///   UTF-8 or a delimited name of no characters: one byte;
+/// - `OpenQuote` at an opening quote that nothing closes before the part ends: one byte;
+/// - `BigNumber` at a number above 9223372036854775807: its digits.
+///
+/// `NoMemory` comes where memory runs out.
 pub fn lex(alloc: Global, text: &[u8], part: Span) -> Result<Vec<Token>, TextStop>
     requires order { part.from ≤ part.to }
     requires within { part.to ≤ length text.now }
