@@ -1,7 +1,7 @@
 -- What each byte of a file is to the parts between semicolons. A quote runs to the next quote of its kind
 -- (two side by side end one and begin another), a comment from `--` to the end of its line. White space and
 -- comments are blank; a semicolon outside both separates; all else is solid.
-use Rattle.std.specs.Prelude.{ℕ, Bool, true, false, ◌&&◌, nat_eq, List, [], ◌∷◌, if◌then◌else◌}
+use Rattle.std.specs.Prelude.{ℕ, Bool, false, ◌&&◌, nat_eq, List, [], ◌∷◌, if◌then◌else◌}
 use Rattle.sql_lex.specs.Bytes.{is_white, is_quote}
 
 pub data Class : Type 0 where

@@ -6,3 +6,4 @@ pub mod Tokens
 pub mod Faults
 pub mod Seen
 pub mod Rest
+pub mod Within

@@ -1,8 +1,8 @@
 -- The pieces of a file: the parts between its separators, each from its first to its last solid byte; parts
 -- without one are left out.
-use Rattle.std.specs.Prelude.{ℕ, ◌+◌, List, [], ◌∷◌, ◌++◌, length, Option, Some, None}
+use Rattle.std.specs.Prelude.{ℕ, ◌+◌, List, [], ◌∷◌, ◌++◌}
 use Rattle.lint_base.specs.declared.place.Span.{Span}
-use Rattle.sql_lex.specs.Classes.{Class, Blank, Solid, Separator, Inside, Nothing, classes}
+use Rattle.sql_lex.specs.Classes.{Class, Blank, Solid, Separator, Nothing, classes}
 
 -- a part: where it begins, and its bytes' classes
 pub record Part : Type 0 where
