@@ -15,7 +15,7 @@ use crate::pieces::Pieces;
 #[tactic(auto, using(crate::proofs::PartLemmas::pieces_within))]
 pub fn split_queries(text: &[u8]) -> Pieces<'_>
     requires { length text.now < 2 ^ 32 }
-    ensures which { rest result ≡ pieces text.now }
+    ensures spans { rest result ≡ pieces text.now }
     ensures within { All (IsWithin (length text.now)) (rest result) }
 {
     Pieces::new(text)
