@@ -1,11 +1,14 @@
 -- The pieces of a text, byte by byte: of the part that has begun only its first and its last solid byte count.
-use Rattle.std.proofs.Common.{◌≡◌, ℕ, suc, ◌+◌, List, [], ◌∷◌, ◌++◌, length, Option, Some, None, refl, sym, ◌∙◌, ap, arith, length-append, append-nil}
-use Rattle.std.specs.Prelude.{option_to_list, MatchOption}
+use Rattle.std.proofs.Common.{◌≡◌, ℕ, suc, ◌+◌, ◌≤◌, List, [], ◌∷◌, ◌++◌, length, Option, Some, None, refl, sym, ◌∙◌, ap, arith, length-append, append-nil}
+use Rattle.std.specs.Prelude.{option_to_list, MatchOption, true, false, ◌&&◌, nat_eq, if◌then◌else◌, All, IfSome}
 use Rattle.std.specs.Iterator.{MakesProgress, YieldsFirst, item_count}
 use Rattle.std.specs.Option.{option_map_or}
+use Rattle.std.proofs.lemmas.List.Elements.{All-nil, All-cons, All-append}
 use Rattle.lint_base.specs.declared.place.Span.{Span}
-use Rattle.sql_lex.specs.Classes.{Class, Blank, Solid, Separator, Inside, Nothing, Comment, Quote, classes}
-use Rattle.sql_lex.specs.Pieces.{Part, parts_from, solid_places, last_of, spanned, spans_of, pieces_from}
+use Rattle.sql_lex.specs.Bytes.{is_quote}
+use Rattle.sql_lex.specs.Classes.{Class, Blank, Solid, Separator, Inside, Nothing, Comment, Quote, classes, begins_with_dash, blank_or_solid}
+use Rattle.sql_lex.specs.Within.{IsWithin}
+use Rattle.sql_lex.specs.Pieces.{parts_from, solid_places, last_of, spanned, spans_of, pieces_from, pieces}
 
 -- from the first solid byte so far to the one at this offset
 abbrev pub grown_to : Option Span → ℕ → Span
@@ -94,3 +97,48 @@ pub first_progress :
 first_progress can rest s None t can_go gives = record { on = λ _. tt; keeps = tt; rests = λ _. tt }
 first_progress can rest s (Some x) t can_go gives =
     record { on = λ _. (can_go, tt, omega (arith, ap length gives)); keeps = can_go; rests = λ _. tt }
+
+classes-length : (inside : Inside) (text : List ℕ) → length (classes inside text) ≡ length text
+classes-length Nothing [] = refl
+classes-length Comment [] = refl
+classes-length (Quote mark) [] = refl
+classes-length Comment (b ∷ bs) = ap suc (classes-length (if nat_eq b 10 then Nothing else Comment) bs)
+classes-length (Quote mark) (b ∷ bs) = ap suc (classes-length (if nat_eq b mark then Nothing else Quote mark) bs)
+classes-length Nothing (b ∷ bs) =
+    elim (nat_eq b 45 && begins_with_dash bs) as (λ dashes. length (if dashes then Blank ∷ classes Comment bs else (if nat_eq b 59 then Separator ∷ classes Nothing bs else blank_or_solid b ∷ classes (if is_quote b then Quote b else Nothing) bs)) ≡ suc (length bs)) [
+      | true ↦ ap suc (classes-length Comment bs)
+      | false ↦ elim (nat_eq b 59) as (λ separates. length (if separates then Separator ∷ classes Nothing bs else blank_or_solid b ∷ classes (if is_quote b then Quote b else Nothing) bs) ≡ suc (length bs)) [
+        | true ↦ ap suc (classes-length Nothing bs)
+        | false ↦ ap suc (classes-length (if is_quote b then Quote b else Nothing) bs)
+      ]
+    ]
+
+option_within : (len : ℕ) (solid : Option Span) → IfSome solid (IsWithin len) → All (IsWithin len) (option_to_list solid)
+option_within len None within = All-nil (IsWithin len)
+option_within len (Some span) within = All-cons (IsWithin len) span [] within (All-nil (IsWithin len))
+
+wider : (at len : ℕ) (solid : Option Span) → at ≤ len → IfSome solid (IsWithin at) → IfSome solid (IsWithin len)
+wider at len None more within = tt
+wider at len (Some span) more within = (within.0, omega arith)
+
+grown-within : (solid : Option Span) (at : ℕ) → IfSome solid (IsWithin at) → IsWithin (at + 1) (grown_to solid at)
+grown-within None at within = (omega arith, omega arith)
+grown-within (Some span) at within = (omega (arith, within.0, within.1), omega arith)
+
+to_come-within :
+    (solid : Option Span) (at : ℕ) (cs : List Class) (len : ℕ) → IfSome solid (IsWithin at) → at + length cs ≤ len →
+    All (IsWithin len) (to_come solid at cs)
+to_come-within solid at [] len within fits = option_within len solid (wider at len solid (omega arith) within)
+to_come-within solid at (Separator ∷ cs) len within fits =
+    All-append (IsWithin len) (option_to_list solid) (to_come None (at + 1) cs)
+    (option_within len solid (wider at len solid (omega (arith, fits)) within))
+    (to_come-within None (at + 1) cs len tt (omega (arith, fits)))
+to_come-within solid at (Blank ∷ cs) len within fits =
+    to_come-within solid (at + 1) cs len (wider at (at + 1) solid (omega arith) within) (omega (arith, fits))
+to_come-within solid at (Solid ∷ cs) len within fits =
+    to_come-within (Some (grown_to solid at)) (at + 1) cs len (grown-within solid at within) (omega (arith, fits))
+
+-- each piece has bytes, and the text has them
+pub pieces_within : (text : List ℕ) → All (IsWithin (length text)) (pieces text)
+pieces_within text =
+    rw pieces_to_come (to_come-within None 0 (classes Nothing text) (length text) tt (omega (arith, classes-length Nothing text)))

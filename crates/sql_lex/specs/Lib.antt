@@ -8,3 +8,4 @@ pub mod Seen
 pub mod Rest
 pub mod Refused
 pub mod Lexing
+pub mod Within

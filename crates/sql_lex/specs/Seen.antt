@@ -1,5 +1,4 @@
 -- The code's classes and places as those of Classes.
-use Rattle.std.specs.Prelude.{ℕ}
 use Rattle.sql_lex.specs.declared.classes.Class.{Class as CodeClass}
 use Rattle.sql_lex.specs.declared.classes.Class.TheVariants as code
 use Rattle.sql_lex.specs.declared.classes.Inside.{Inside as CodeInside}

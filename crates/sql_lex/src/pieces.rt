@@ -51,6 +51,7 @@ impl Iterator for Pieces<'_> {
     #[tactic(auto, using(crate::proofs::PartLemmas::pieces_to_come, crate::proofs::PartLemmas::grown_is))]
     fn next(&mut self) -> Option<Span> {
         let mut inside = Inside::Nothing;
+        // from the first to the last solid byte of the part, so far
         let mut solid = None;
         while let Some((byte, after)) = self.text.split_first() {
             let at = self.at;

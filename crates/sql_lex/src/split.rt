@@ -1,7 +1,8 @@
 //! A query file falls into pieces.
-ghost use Rattle.std.specs.Prelude.{◌≡◌, ◌<◌, ◌^◌, length, IfOk};
+ghost use Rattle.std.specs.Prelude.{◌≡◌, ◌<◌, ◌^◌, length, IfOk, All};
 ghost use Rattle.sql_lex.specs.Pieces.{pieces};
 ghost use Rattle.sql_lex.specs.Rest.{rest};
+ghost use Rattle.sql_lex.specs.Within.{IsWithin};
 
 use crate::pieces::Pieces;
 
@@ -11,9 +12,11 @@ use crate::pieces::Pieces;
 /// space is white space.
 ///
 /// It takes no memory, and the time is linear in the text.
+#[tactic(auto, using(crate::proofs::PartLemmas::pieces_within))]
 pub fn split_queries(text: &[u8]) -> Pieces<'_>
     requires { length text.now < 2 ^ 32 }
-    ensures { rest result ≡ pieces text.now }
+    ensures spans { rest result ≡ pieces text.now }
+    ensures within { All (IsWithin (length text.now)) (rest result) }
 {
     Pieces::new(text)
 }
