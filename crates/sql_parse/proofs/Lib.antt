@@ -15,3 +15,4 @@ pub mod Numbers
 pub mod QueryForm
 pub mod QueryWhole
 pub mod QueryLaws
+pub mod GrammarExamples

@@ -8,3 +8,4 @@ pub mod Selects
 pub mod Queries
 pub mod Tables
 pub mod Schemas
+pub mod Examples

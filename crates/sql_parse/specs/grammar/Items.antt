@@ -1,15 +1,14 @@
 -- What a SELECT begins with: ALL or DISTINCT, and its items; and the entries of FROM by themselves.
-use Rattle.std.specs.Prelude.{ℕ, ◌≡◌, ◌⊎◌, Bool, List, [], ◌∷◌, ◌++◌, Option, Some, None}
+use Rattle.std.specs.Prelude.{◌≡◌, ◌⊎◌, Bool, List, [], ◌∷◌, ◌++◌, Option, Some, None}
 use Rattle.lint_base.specs.declared.place.Span.{Span}
 use Rattle.sql_lex.specs.declared.token.Sign.TheVariants.{Dot, Star as Asterisk}
 use Rattle.sql_lex.specs.declared.token.Token.{Token}
 use Rattle.sql_tree.specs.declared.term.NameTree.{NameTree}
-use Rattle.sql_tree.specs.declared.term.TermTree.{TermTree}
 use Rattle.sql_tree.specs.declared.select.ItemTree.{ItemTree}
 use Rattle.sql_tree.specs.declared.select.ItemTree.TheVariants.{Star, StarOf, Term}
 use Rattle.sql_parse.specs.grammar.Words.{word, sign, MayBe, ALL, DISTINCT}
 use Rattle.sql_parse.specs.grammar.Lists.{SpellsList}
-use Rattle.sql_parse.specs.grammar.Names.{name_token, SpellsName, SpellsAlias}
+use Rattle.sql_parse.specs.grammar.Names.{name_token, SpellsAlias}
 use Rattle.sql_parse.specs.grammar.Terms.{SpellsBareColumn, SpellsLiteral}
 
 -- [ ALL | DISTINCT ]: the tree has the place of DISTINCT

@@ -5,7 +5,7 @@ use Rattle.sql_lex.specs.declared.token.Sign.TheVariants.{Open, Close}
 use Rattle.sql_lex.specs.declared.token.Kind.TheVariants as kind
 use Rattle.sql_lex.specs.declared.token.Token.{Token}
 use Rattle.sql_tree.specs.declared.term.NameTree.{NameTree}
-use Rattle.sql_parse.specs.grammar.Words.{word, sign, MayBe, AS}
+use Rattle.sql_parse.specs.grammar.Words.{sign, MayBe, AS}
 use Rattle.sql_parse.specs.grammar.Lists.{SpellsList}
 
 -- the token of a name, quoted or not

@@ -1,8 +1,7 @@
 -- A query: a SELECT with its ORDER BY (ISO/IEC 9075:1992, 13.1).
-use Rattle.std.specs.Prelude.{ℤ, ◌≡◌, ◌⊎◌, List, [], ◌∷◌, ◌++◌, codes}
+use Rattle.std.specs.Prelude.{◌≡◌, List, [], ◌∷◌, ◌++◌, codes}
 use Rattle.lint_base.specs.declared.place.Span.{Span}
 use Rattle.sql_lex.specs.declared.token.Token.{Token}
-use Rattle.sql_tree.specs.declared.term.TermTree.{TermTree}
 use Rattle.sql_tree.specs.declared.select.OrderTree.{OrderTree}
 use Rattle.sql_tree.specs.declared.select.OrderTree.TheVariants.{Place, Column}
 use Rattle.sql_tree.specs.declared.select.QueryTree.{QueryTree}

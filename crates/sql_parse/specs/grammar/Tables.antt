@@ -15,7 +15,7 @@ use Rattle.sql_tree.specs.declared.schema.RuleTree.TheVariants.{NotNull, Unique,
 use Rattle.sql_tree.specs.declared.schema.Element.{Element}
 use Rattle.sql_tree.specs.declared.schema.Element.TheVariants.{Column, Rule}
 use Rattle.sql_tree.specs.declared.schema.CreateTable.{CreateTable}
-use Rattle.sql_parse.specs.grammar.Words.{word, called, sign, number, span_of, CHECK, CONSTRAINT, CREATE, FOREIGN, NOT, NULL, ON, PRIMARY, REFERENCES, TABLE, UNIQUE}
+use Rattle.sql_parse.specs.grammar.Words.{word, called, sign, number, CHECK, CONSTRAINT, CREATE, FOREIGN, NOT, NULL, ON, PRIMARY, REFERENCES, TABLE, UNIQUE}
 use Rattle.sql_parse.specs.grammar.Lists.{SpellsList}
 use Rattle.sql_parse.specs.grammar.Names.{name_token, SpellsNames}
 use Rattle.sql_parse.specs.grammar.Terms.{SpellsValue}
