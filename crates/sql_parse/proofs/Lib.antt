@@ -16,3 +16,5 @@ pub mod QueryForm
 pub mod QueryWhole
 pub mod QueryLaws
 pub mod GrammarExamples
+pub mod GrammarBegins
+pub mod GrammarRefused

@@ -190,3 +190,8 @@ schema_trees =
           ∷ [];
     }
     ∷ []
+
+-- NOT NOT a = 1, which no condition spells
+abbrev pub not_not_tokens : List Token
+not_not_tokens =
+    word NOT (at 0 3) ∷ word NOT (at 4 7) ∷ called (codes "A") (at 8 9) ∷ sign (Operator Eq) (at 10 11) ∷ number (pos 1) (at 12 13) ∷ []

@@ -85,7 +85,7 @@ mutual
     -- term [ NOT ] IN "(" select ")"
     in_select : {tree : CondTree} {tokens : List Token} (term : TermTree) (select : SelectTree) (negated : Bool) (own not_word : List Token) (in_at : Span) (inner : List Token) →
         tree ≡ InSelect term select negated (span_of tokens) →
-        tokens ≡ own ++ not_word ++ word IN in_at ∷ inner →
+        tokens ≡ own ++ (not_word ++ word IN in_at ∷ inner) →
         SpellsTerm term own →
         SpellsNot negated not_word →
         SpellsSubquery select inner →
@@ -119,7 +119,7 @@ mutual
     select : {span : Span} {tree : SelectTree} {tokens : List Token} (distinct : Option Span) (items : List ItemTree) (entries : List EntryTree) (filter : Option CondTree) →
         (select_at : Span) (quantifier listed : List Token) (from_at : Span) (groups condition : List Token) →
         tree ≡ select_tree distinct items entries filter span →
-        tokens ≡ word SELECT select_at ∷ quantifier ++ listed ++ word FROM from_at ∷ groups ++ condition →
+        tokens ≡ word SELECT select_at ∷ quantifier ++ (listed ++ (word FROM from_at ∷ groups ++ condition)) →
         SpellsQuantifier distinct quantifier →
         SpellsItems items listed →
         SpellsGroups 0 entries groups →
@@ -168,7 +168,7 @@ mutual
     inner_join : {first : ℕ} {entries : List EntryTree} {tokens : List Token} (table : NameTree) (alias : Option NameTree) (tree : CondTree) (others : List EntryTree) →
         (inner_word : List Token) (join_at : Span) (own : List Token) (on_at : Span) (condition rest : List Token) →
         entries ≡ entry_tree table alias (Some tree) first ∷ others →
-        tokens ≡ inner_word ++ word JOIN join_at ∷ own ++ word ON on_at ∷ condition ++ rest →
+        tokens ≡ inner_word ++ (word JOIN join_at ∷ own ++ (word ON on_at ∷ condition ++ rest)) →
         MayBe INNER inner_word →
         SpellsEntry table alias own →
         SpellsCond Disjunction tree condition →

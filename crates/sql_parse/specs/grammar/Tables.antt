@@ -171,7 +171,7 @@ pub data SpellsColumnRules : NameTree → List RuleTree → List Token → Type 
   no_rules : {column : NameTree} {rules : List RuleTree} {tokens : List Token} → rules ≡ [] → tokens ≡ [] → SpellsColumnRules column rules tokens
   more_rules : {column : NameTree} {rules : List RuleTree} {tokens : List Token} (left others : List RuleTree) (constraint own rest : List Token) →
       rules ≡ left ++ others →
-      tokens ≡ constraint ++ own ++ rest →
+      tokens ≡ constraint ++ (own ++ rest) →
       SpellsConstraint constraint →
       SpellsColumnRule column left own →
       SpellsColumnRules column others rest →
@@ -181,7 +181,7 @@ pub data SpellsColumnRules : NameTree → List RuleTree → List Token → Type 
 abbrev pub SpellsElement : Element → List Token → Type 0
 SpellsElement (Column name kind rules) tokens =
     (quoted : Bool) × (type_tokens : List Token) × (default_tokens : List Token) × (rest : List Token)
-    × (tokens ≡ name_token name quoted ∷ type_tokens ++ default_tokens ++ rest)
+    × (tokens ≡ name_token name quoted ∷ type_tokens ++ (default_tokens ++ rest))
     × SpellsType kind type_tokens × SpellsDefault default_tokens × SpellsColumnRules name rules rest
 SpellsElement (Rule rule) tokens = (constraint : List Token) × (own : List Token) × (tokens ≡ constraint ++ own) × SpellsConstraint constraint × SpellsTableRule rule own
 
