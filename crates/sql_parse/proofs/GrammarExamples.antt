@@ -205,7 +205,7 @@ primary_column = (
   refl,
   table.integer (at 18 25) refl refl,
   table.no_default refl,
-  table.more_rules _ [] [] (part example.table_tokens 6 2) [] refl refl (table.unnamed refl) (table.SpellsColumnRule.primary (at 26 33) (at 34 37) refl refl) (table.no_rules refl refl),
+  table.more_rules _ [] [] (part example.table_tokens 6 2) [] refl refl (table.unnamed refl) (table.primary (at 26 33) (at 34 37) refl refl) (table.no_rules refl refl),
 )
 
 text_column : table.SpellsElement (element.Column (name (codes "B") 39 40) (type.Text (pos 3) (at 46 47)) (rule.NotNull ∷ [])) (part example.table_tokens 9 9)
@@ -230,7 +230,7 @@ check_rule = (
   part example.table_tokens 19 6,
   refl,
   table.unnamed refl,
-  table.SpellsTableRule.check example.check_tree refl (record {
+  table.table_check example.check_tree refl (record {
     check_at = at 71 76;
     open_at = at 77 78;
     own = part example.table_tokens 21 3;
@@ -252,7 +252,7 @@ foreign_rule = (
   part example.table_tokens 28 13,
   refl,
   table.named (name (codes "K") 97 98) false (at 86 96) refl,
-  table.foreign _ _ _ (at 99 106) (at 107 110) (at 115 125) (part example.table_tokens 30 3) (part example.table_tokens 33 8) refl refl (one_name (at 111 112) (at 113 114) (codes "B") 112 113)
+  table.foreign_names _ _ _ (at 99 106) (at 107 110) (at 115 125) (part example.table_tokens 30 3) (part example.table_tokens 33 8) refl refl (one_name (at 111 112) (at 113 114) (codes "B") 112 113)
       (record {
         quoted = false;
         listed = part example.table_tokens 35 3;

@@ -148,18 +148,18 @@ pub data SpellsColumnRule (column : NameTree) (rules : List RuleTree) (tokens : 
 
 -- UNIQUE names | PRIMARY KEY names | CHECK "(" flat ")" | FOREIGN KEY names REFERENCES name [ names ] actions
 pub data SpellsTableRule (rule : RuleTree) (tokens : List Token) : Type 0 where
-  unique : (columns : List NameTree) (at : Span) (listed : List Token) →
+  unique_names : (columns : List NameTree) (at : Span) (listed : List Token) →
       rule ≡ Unique columns →
       tokens ≡ word UNIQUE at ∷ listed →
       SpellsNames columns listed →
       SpellsTableRule rule tokens
-  primary : (columns : List NameTree) (at key_at : Span) (listed : List Token) →
+  primary_names : (columns : List NameTree) (at key_at : Span) (listed : List Token) →
       rule ≡ Primary columns at →
       tokens ≡ word PRIMARY at ∷ called (codes "KEY") key_at ∷ listed →
       SpellsNames columns listed →
       SpellsTableRule rule tokens
-  check : (tree : CondTree) → rule ≡ Check tree → SpellsCheck tree tokens → SpellsTableRule rule tokens
-  foreign : (columns : List NameTree) (table : NameTree) (target : List NameTree) (at key_at references_at : Span) (listed rest : List Token) →
+  table_check : (tree : CondTree) → rule ≡ Check tree → SpellsCheck tree tokens → SpellsTableRule rule tokens
+  foreign_names : (columns : List NameTree) (table : NameTree) (target : List NameTree) (at key_at references_at : Span) (listed rest : List Token) →
       rule ≡ Foreign columns table target (record { from = at.from; to = last_end table target }) →
       tokens ≡ word FOREIGN at ∷ called (codes "KEY") key_at ∷ listed ++ rest →
       SpellsNames columns listed →
