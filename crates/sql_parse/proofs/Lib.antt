@@ -18,3 +18,4 @@ pub mod QueryLaws
 pub mod GrammarExamples
 pub mod GrammarBegins
 pub mod GrammarRefused
+pub mod GrammarTerms

@@ -21,7 +21,7 @@ mod refused;
 mod schema;
 mod token;
 
-pub use grammar_laws::{grammar_examples, grammar_words_are_reserved};
+pub use grammar_laws::{grammar_examples, grammar_words_are_reserved, one_term};
 pub use laws::one_reading;
 pub use query::read_first_query;
 pub use schema::read_first_schema;
