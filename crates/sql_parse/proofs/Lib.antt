@@ -15,3 +15,7 @@ pub mod Numbers
 pub mod QueryForm
 pub mod QueryWhole
 pub mod QueryLaws
+pub mod GrammarExamples
+pub mod GrammarBegins
+pub mod GrammarRefused
+pub mod GrammarTerms

@@ -1,3 +1,4 @@
+pub mod grammar
 pub mod Blank
 pub mod Tokens
 pub mod Reserved

@@ -5,9 +5,14 @@
 //! believe the grammar: `Blank`, `Tokens`, `Reserved`, `FirstSchema`, `FirstQuery` and `Refused`.
 //! `Lexing`, `Parsing`, `QueryReading` and `Seen` only retell the code; `proofs/` shows that what they
 //! read is what the grammar has.
+//!
+//! `specs/grammar` has the grammar of the whole language, as a relation between trees and tokens, which no
+//! reader uses yet. Of it a reader must believe every file but `Examples`, whose trees and tokens
+//! `grammar_examples` joins.
 #![tactic(auto)]
 
 mod blank;
+mod grammar_laws;
 mod laws;
 mod lex;
 mod parts;
@@ -16,6 +21,7 @@ mod refused;
 mod schema;
 mod token;
 
+pub use grammar_laws::{grammar_examples, grammar_words_are_reserved, one_term};
 pub use laws::one_reading;
 pub use query::read_first_query;
 pub use schema::read_first_schema;

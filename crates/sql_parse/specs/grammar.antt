@@ -1,0 +1,11 @@
+pub mod Words
+pub mod Lists
+pub mod Names
+pub mod Terms
+pub mod Predicates
+pub mod Items
+pub mod Selects
+pub mod Queries
+pub mod Tables
+pub mod Schemas
+pub mod Examples
