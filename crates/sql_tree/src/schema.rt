@@ -1,8 +1,7 @@
 //! Declarations of tables.
-use lint_base::{Items, Span};
-
 use crate::select::CondTree;
 use crate::term::NameTree;
+use lint_base::{Items, Span};
 
 /// CREATE TABLE.
 #[derive(Drop)]

@@ -1,9 +1,8 @@
 //! Queries.
+use crate::term::{NameTree, TermTree};
 use lint_base::{Items, Span};
 use lint_tables::Op;
 use sqlite_items::Boxed;
-
-use crate::term::{NameTree, TermTree};
 
 /// A query with its ORDER BY.
 #[derive(Drop)]
@@ -35,8 +34,14 @@ pub struct SelectTree {
 #[derive(Drop)]
 pub enum ItemTree {
     Star(Span),
-    StarOf { table: NameTree, star: Span },
-    Term { term: TermTree, alias: Option<NameTree> },
+    StarOf {
+        table: NameTree,
+        star: Span,
+    },
+    Term {
+        term: TermTree,
+        alias: Option<NameTree>,
+    },
 }
 
 /// An entry of a FROM list. `first` is the number of the first entry of its joined group.
@@ -93,5 +98,8 @@ pub enum CondTree {
         negated: bool,
         span: Span,
     },
-    Exists { select: Boxed<SelectTree>, span: Span },
+    Exists {
+        select: Boxed<SelectTree>,
+        span: Span,
+    },
 }

@@ -19,7 +19,15 @@ pub enum TermTree {
         plus: i64,
         span: Span,
     },
-    Number { value: i64, span: Span },
-    Text { text: Str, span: Span },
-    Null { span: Span },
+    Number {
+        value: i64,
+        span: Span,
+    },
+    Text {
+        text: Str,
+        span: Span,
+    },
+    Null {
+        span: Span,
+    },
 }
