@@ -16,3 +16,11 @@ pub mod QueryForm
 pub mod QueryWhole
 pub mod QueryLaws
 pub mod GrammarExamples
+pub mod OneTokens
+pub mod OneTerms
+pub mod OneLists
+pub mod OnePredicates
+pub mod OneItems
+pub mod OneConditions
+pub mod OneSelects
+pub mod OneQueries

@@ -15,6 +15,7 @@ mod blank;
 mod grammar_laws;
 mod laws;
 mod lex;
+mod one_tree;
 mod parts;
 mod query;
 mod refused;
@@ -23,6 +24,7 @@ mod token;
 
 pub use grammar_laws::{grammar_examples, grammar_words_are_reserved};
 pub use laws::one_reading;
+pub use one_tree::{one_condition, one_predicate, one_query, one_term};
 pub use query::read_first_query;
 pub use schema::read_first_schema;
 
