@@ -24,3 +24,5 @@ pub mod OneItems
 pub mod OneConditions
 pub mod OneSelects
 pub mod OneQueries
+pub mod OneTables
+pub mod OneSchemas

@@ -220,7 +220,7 @@ ReadsJoins first entries tokens =
     read_joins (read_cond part_fuel) fuel first (tokens ++ rest) ≡ found entries tokens rest)
 
 -- a whole condition takes one step of fuel
-whole_cond : (tree : CondTree) (tokens : List Token) (reads : ReadsCond Disjunction tree tokens) (fuel : ℕ) → suc reads.0 ≤ fuel → (rest : List Token) → 4 ≤ rank rest →
+pub whole_cond : (tree : CondTree) (tokens : List Token) (reads : ReadsCond Disjunction tree tokens) (fuel : ℕ) → suc reads.0 ≤ fuel → (rest : List Token) → 4 ≤ rank rest →
     read_cond fuel (tokens ++ rest) ≡ found tree tokens rest
 unfolding read_cond read_level level_rank
 whole_cond tree tokens reads zero h rest r = absurd (omega arith)
@@ -285,7 +285,7 @@ unfolding read_level level_rank
 negation_case tree inner not_at tokens own e whole reads =
     (reads.0, λ fuel h rest r. rw (e, whole) (negation_step (read_cond fuel) fuel inner not_at own rest (reads.1 fuel h rest r)))
 
-close_rank : (n : ℕ) → n ≤ 9 → (at : Span) (rest : List Token) → n ≤ rank (sign Close at ∷ rest)
+pub close_rank : (n : ℕ) → n ≤ 9 → (at : Span) (rest : List Token) → n ≤ rank (sign Close at ∷ rest)
 unfolding rank kind_rank
 close_rank n h at rest = h
 

@@ -5,7 +5,7 @@ use Rattle.sql_lex.specs.declared.token.Sign.TheVariants.{Open, Comma, Dot, Star
 use Rattle.sql_lex.specs.declared.token.Kind.{Kind}
 use Rattle.sql_lex.specs.declared.token.Kind.TheVariants.{Name, Reserved, Sign}
 use Rattle.sql_lex.specs.declared.token.Token.{Token}
-use Rattle.sql_parse.specs.grammar.Words.{AND, AS, CROSS, INNER, JOIN, OR, ORDER, WHERE}
+use Rattle.sql_parse.specs.grammar.Words.{AND, AS, CHECK, CONSTRAINT, CROSS, INNER, JOIN, NOT, NULL, ON, OR, ORDER, PRIMARY, REFERENCES, UNIQUE, WHERE}
 
 -- what is read, its own tokens, and the tokens after them
 abbrev pub Found : Type 0 → Type 0
@@ -59,10 +59,10 @@ is_word place (Reserved p) = eqb p place
 is_word place _ = false
 
 -- how large a part is that a token can continue: 0 a column, 1 a term, 2 and 3 the parts of AND and OR,
--- 4 an entry, 5 a group of joins, 6 a list, 7 a SELECT before its WHERE, 8 one before its ORDER BY; 9 none
+-- 4 an entry, 5 a group of joins or a column with its rules, 6 a list, 7 a SELECT before its WHERE, 8 one before its ORDER BY; 9 none
 unfoldable pub place_rank : ℕ → ℕ
 place_rank p =
-    cond (eqb p AND) 2 (cond (eqb p OR) 3 (cond (eqb p AS) 4 (cond (eqb p JOIN) 5 (cond (eqb p INNER) 5 (cond (eqb p CROSS) 5 (cond (eqb p WHERE) 7 (cond (eqb p ORDER) 8 9)))))))
+    cond (eqb p AND) 2 (cond (eqb p OR) 3 (cond (eqb p AS) 4 (cond (eqb p JOIN) 5 (cond (eqb p INNER) 5 (cond (eqb p CROSS) 5 (cond (eqb p WHERE) 7 (cond (eqb p ORDER) 8 (cond (eqb p ON) 5 (cond (eqb p NOT) 5 (cond (eqb p NULL) 5 (cond (eqb p UNIQUE) 5 (cond (eqb p PRIMARY) 5 (cond (eqb p CHECK) 5 (cond (eqb p REFERENCES) 5 (cond (eqb p CONSTRAINT) 5 9)))))))))))))))
 
 unfoldable pub kind_rank : Kind → ℕ
 kind_rank (Name text quoted) = 4
@@ -71,6 +71,7 @@ kind_rank (Sign Dot) = 0
 kind_rank (Sign Plus) = 1
 kind_rank (Sign Minus) = 1
 kind_rank (Sign Comma) = 6
+kind_rank (Sign Open) = 5
 kind_rank _ = 9
 
 unfoldable pub rank : List Token → ℕ
@@ -107,6 +108,16 @@ pub no_name : (rest : List Token) → 5 ≤ rank rest → at_head is_name rest �
 unfolding at_head rank
 no_name [] h = refl
 no_name (t ∷ rest) h = name_rank t.kind h
+
+open_rank : (k : Kind) → 6 ≤ kind_rank k → is_open k ≡ false
+unfolding is_open kind_rank
+open_rank (Sign Open) h = absurd (omega arith)
+open_rank _ h = refl
+
+pub no_open : (rest : List Token) → 6 ≤ rank rest → at_head is_open rest ≡ false
+unfolding at_head rank
+no_open [] h = refl
+no_open (t ∷ rest) h = open_rank t.kind h
 
 comma_rank : (k : Kind) → 7 ≤ kind_rank k → is_comma k ≡ false
 unfolding is_comma kind_rank

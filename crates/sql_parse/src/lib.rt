@@ -8,7 +8,8 @@
 //!
 //! `specs/grammar` has the grammar of the whole language, as a relation between trees and tokens, which no
 //! reader uses yet. Of it a reader must believe every file but `Examples`, whose trees and tokens
-//! `grammar_examples` joins.
+//! `grammar_examples` joins. `one_query` and `one_schema`, with `one_term`, `one_predicate` and
+//! `one_condition` below them, prove that no two trees have the same tokens.
 #![tactic(auto)]
 
 mod blank;
@@ -24,7 +25,7 @@ mod token;
 
 pub use grammar_laws::{grammar_examples, grammar_words_are_reserved};
 pub use laws::one_reading;
-pub use one_tree::{one_condition, one_predicate, one_query, one_term};
+pub use one_tree::{one_condition, one_predicate, one_query, one_schema, one_term};
 pub use query::read_first_query;
 pub use schema::read_first_schema;
 

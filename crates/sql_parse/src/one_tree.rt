@@ -9,7 +9,10 @@ ghost use Rattle.sql_tree.specs.declared.select.QueryTree.{QueryTree};
 ghost use Rattle.sql_parse.specs.grammar.Terms.{SpellsTerm};
 ghost use Rattle.sql_parse.specs.grammar.Predicates.{SpellsPredicate};
 ghost use Rattle.sql_parse.specs.grammar.Selects.{Disjunction, SpellsCond, SpellsSelect};
+ghost use Rattle.sql_tree.specs.declared.schema.CreateTable.{CreateTable};
 ghost use Rattle.sql_parse.specs.grammar.Queries.{SpellsQuery};
+ghost use Rattle.sql_parse.specs.grammar.Tables.{SpellsCreate};
+ghost use Rattle.sql_parse.specs.grammar.Schemas.{SpellsSchema};
 
 /// A list of tokens is spelled by at most one term.
 pub fn one_term()
@@ -30,4 +33,10 @@ pub fn one_condition()
 pub fn one_query()
     ensures select { (span : Span) (tokens : List Token) (left right : SelectTree) → SpellsSelect span left tokens → SpellsSelect span right tokens → left ≡ right }
     ensures query { (tokens : List Token) → (left right : QueryTree) → SpellsQuery left tokens → SpellsQuery right tokens → left ≡ right }
+{}
+
+/// A list of tokens is spelled by at most one declaration of a table, and by at most one list of them.
+pub fn one_schema()
+    ensures table { (tokens : List Token) → (left right : CreateTable) → SpellsCreate left tokens → SpellsCreate right tokens → left ≡ right }
+    ensures schema { (tokens : List Token) → (left right : List CreateTable) → SpellsSchema left tokens → SpellsSchema right tokens → left ≡ right }
 {}
