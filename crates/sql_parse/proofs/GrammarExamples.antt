@@ -1,23 +1,21 @@
 -- The derivations of the worked examples.
-use Rattle.std.proofs.Common.{ℕ, ℤ, pos, ◌≡◌, refl, ap, sym, ◌∙◌, ◌+◌, ◌≤◌, lit≤, Bool, true, false, List, [], ◌∷◌, ◌++◌, take, drop, Option, Some, None, codes, inl, inr}
+use Rattle.std.proofs.Common.{ℕ, pos, ◌≡◌, refl, ap, sym, ◌∙◌, lit≤, Bool, true, false, List, [], ◌∷◌, ◌++◌, take, drop, Some, None, codes, inl, inr}
 use Rattle.lint_base.specs.declared.place.Span.{Span}
 use Rattle.lint_tables.specs.declared.op.Op.{Op}
 use Rattle.lint_tables.specs.declared.op.Op.TheVariants.{Eq, Lt, Gt, Ge}
-use Rattle.sql_lex.specs.declared.token.Sign.TheVariants.{Open, Close, Comma, Dot, Compare as Operator}
+use Rattle.sql_lex.specs.declared.token.Sign.TheVariants.{Open, Close, Dot, Compare as Operator}
 use Rattle.sql_lex.specs.declared.token.Token.{Token}
-use Rattle.sql_tree.specs.declared.term.NameTree.{NameTree}
 use Rattle.sql_tree.specs.declared.term.TermTree.{TermTree}
 use Rattle.sql_tree.specs.declared.term.TermTree.TheVariants.{Column}
 use Rattle.sql_tree.specs.declared.select.CondTree.{CondTree, fold-roll-CondTree}
 use Rattle.sql_tree.specs.declared.select.CondTree.TheOpen.{CondTree-F}
-use Rattle.sql_tree.specs.declared.select.CondTree.TheVariants.{And, Or, Not, Compare, rolls-Compare}
-use Rattle.sql_tree.specs.declared.select.SelectTree.{out-SelectTree, roll-SelectTree, out-roll-SelectTree}
+use Rattle.sql_tree.specs.declared.select.CondTree.TheVariants.{Compare, rolls-Compare}
+use Rattle.sql_tree.specs.declared.select.SelectTree.{out-SelectTree, out-roll-SelectTree}
 use Rattle.sql_tree.specs.declared.select.ItemTree.TheVariants.{Term}
-use Rattle.sql_tree.specs.declared.select.EntryTree.{EntryTree}
 use Rattle.sql_tree.specs.declared.schema.TypeTree.TheVariants as type
 use Rattle.sql_tree.specs.declared.schema.Element.TheVariants as element
 use Rattle.sql_tree.specs.declared.schema.RuleTree.TheVariants as rule
-use Rattle.sql_parse.specs.grammar.Words.{word, called, sign, number, span_of, AND, AS, OR, NOT}
+use Rattle.sql_parse.specs.grammar.Words.{word, called, sign, number, span_of, AND, OR}
 use Rattle.sql_parse.specs.grammar.Names.{SpellsNames}
 use Rattle.sql_parse.specs.grammar.Terms.{SpellsTerm, SpellsValue, SpellsSigned, SpellsBareColumn, SpellsColumn}
 use Rattle.sql_parse.specs.grammar.Terms as term
@@ -199,33 +197,49 @@ query_spelled = record {
 }
 
 primary_column : table.SpellsElement (element.Column (name (codes "A") 16 17) type.Integer (rule.Primary (name (codes "A") 16 17 ∷ []) (at 26 33) ∷ [])) (part example.table_tokens 4 4)
-primary_column =
-    (false, part example.table_tokens 5 1, [], part example.table_tokens 6 2, refl, table.integer (at 18 25) refl refl, table.no_default refl,
-    table.more_rules _ [] [] (part example.table_tokens 6 2) [] refl refl (table.unnamed refl) (table.SpellsColumnRule.primary (at 26 33) (at 34 37) refl refl) (table.no_rules refl refl))
+primary_column = (
+  false,
+  part example.table_tokens 5 1,
+  [],
+  part example.table_tokens 6 2,
+  refl,
+  table.integer (at 18 25) refl refl,
+  table.no_default refl,
+  table.more_rules _ [] [] (part example.table_tokens 6 2) [] refl refl (table.unnamed refl) (table.primary (at 26 33) (at 34 37) refl refl) (table.no_rules refl refl),
+)
 
 text_column : table.SpellsElement (element.Column (name (codes "B") 39 40) (type.Text (pos 3) (at 46 47)) (rule.NotNull ∷ [])) (part example.table_tokens 9 9)
-text_column =
-    (false, part example.table_tokens 10 4, part example.table_tokens 14 2, part example.table_tokens 16 2, refl,
-    table.fixed (pos 3) (at 46 47) (codes "CHAR") (at 41 45) (at 45 46) (at 47 48) refl refl (inl refl),
-    table.default _ (at 49 56) (part example.table_tokens 15 1) refl (term.literal (term.quoted (codes "x") (at 57 60) refl refl)),
-    table.more_rules _ [] [] (part example.table_tokens 16 2) [] refl refl (table.unnamed refl) (table.not_null (at 61 64) (at 65 69) refl refl) (table.no_rules refl refl))
+text_column = (
+  false,
+  part example.table_tokens 10 4,
+  part example.table_tokens 14 2,
+  part example.table_tokens 16 2,
+  refl,
+  table.fixed (pos 3) (at 46 47) (codes "CHAR") (at 41 45) (at 45 46) (at 47 48) refl refl (inl refl),
+  table.default _ (at 49 56) (part example.table_tokens 15 1) refl (term.literal (term.quoted (codes "x") (at 57 60) refl refl)),
+  table.more_rules _ [] [] (part example.table_tokens 16 2) [] refl refl (table.unnamed refl) (table.not_null (at 61 64) (at 65 69) refl refl) (table.no_rules refl refl),
+)
 
 check_is_flat : table.is_flat example.check_tree ≡ true
 check_is_flat =
     ap table.is_flat (sym (rolls-Compare Gt (column (codes "A") 78 79) (integer 0 82 83) (at 78 83))) ∙ fold-roll-CondTree Bool Bool Bool table.is_flat_step (λ entry. false) (λ select. false) (CondTree-F.Compare Gt (column (codes "A") 78 79) (integer 0 82 83) (at 78 83))
 
 check_rule : table.SpellsElement (element.Rule (rule.Check example.check_tree)) (part example.table_tokens 19 6)
-check_rule =
-    ([], part example.table_tokens 19 6, refl, table.unnamed refl,
-    table.SpellsTableRule.check example.check_tree refl (record {
-      check_at = at 71 76;
-      open_at = at 77 78;
-      own = part example.table_tokens 21 3;
-      close_at = at 83 84;
-      whole = refl;
-      condition = alone (comparison Gt (at 80 81) (column_term (codes "A") 78 79) (number_term 0 82 83));
-      flat = check_is_flat;
-    }))
+check_rule = (
+  [],
+  part example.table_tokens 19 6,
+  refl,
+  table.unnamed refl,
+  table.table_check example.check_tree refl (record {
+    check_at = at 71 76;
+    open_at = at 77 78;
+    own = part example.table_tokens 21 3;
+    close_at = at 83 84;
+    whole = refl;
+    condition = alone (comparison Gt (at 80 81) (column_term (codes "A") 78 79) (number_term 0 82 83));
+    flat = check_is_flat;
+  }),
+)
 
 -- one name in parentheses
 one_name : (open_at close_at : Span) (text : List ℕ) (from to : ℕ) → SpellsNames (name text from to ∷ []) (sign Open open_at ∷ called text (at from to) ∷ sign Close close_at ∷ [])
@@ -233,17 +247,21 @@ one_name open_at close_at text from to =
     record { open_at = open_at; listed = called text (at from to) ∷ []; close_at = close_at; whole = refl; names_listed = (called text (at from to) ∷ [], [], refl, (false, refl), refl) }
 
 foreign_rule : table.SpellsElement (element.Rule (rule.Foreign (name (codes "B") 112 113 ∷ []) (name (codes "S") 126 127) (name (codes "C") 129 130 ∷ []) (at 99 130))) (part example.table_tokens 26 15)
-foreign_rule =
-    (part example.table_tokens 26 2, part example.table_tokens 28 13, refl, table.named (name (codes "K") 97 98) false (at 86 96) refl,
-    table.foreign _ _ _ (at 99 106) (at 107 110) (at 115 125) (part example.table_tokens 30 3) (part example.table_tokens 33 8) refl refl (one_name (at 111 112) (at 113 114) (codes "B") 112 113)
-    (record {
-      quoted = false;
-      listed = part example.table_tokens 35 3;
-      rest = part example.table_tokens 38 3;
-      whole = refl;
-      names = one_name (at 128 129) (at 130 131) (codes "C") 129 130;
-      actions = table.more_actions (codes "DELETE") (at 132 134) (at 135 141) (part example.table_tokens 40 1) [] refl (inl refl) (table.cascade (at 142 149) refl) (table.no_actions refl);
-    }))
+foreign_rule = (
+  part example.table_tokens 26 2,
+  part example.table_tokens 28 13,
+  refl,
+  table.named (name (codes "K") 97 98) false (at 86 96) refl,
+  table.foreign_names _ _ _ (at 99 106) (at 107 110) (at 115 125) (part example.table_tokens 30 3) (part example.table_tokens 33 8) refl refl (one_name (at 111 112) (at 113 114) (codes "B") 112 113)
+      (record {
+        quoted = false;
+        listed = part example.table_tokens 35 3;
+        rest = part example.table_tokens 38 3;
+        whole = refl;
+        names = one_name (at 128 129) (at 130 131) (codes "C") 129 130;
+        actions = table.more_actions (codes "DELETE") (at 132 134) (at 135 141) (part example.table_tokens 40 1) [] refl (inl refl) (table.cascade (at 142 149) refl) (table.no_actions refl);
+      }),
+)
 
 pub table_spelled : table.SpellsCreate example.table_tree example.table_tokens
 table_spelled = record {
@@ -254,18 +272,35 @@ table_spelled = record {
   listed = part example.table_tokens 4 37;
   close_at = at 149 150;
   whole = refl;
-  elements =
-      (part example.table_tokens 4 4, part example.table_tokens 8 33, refl, primary_column,
-      (at 37 38, part example.table_tokens 9 9, part example.table_tokens 18 23, refl, text_column,
-      (at 69 70, part example.table_tokens 19 6, part example.table_tokens 25 16, refl, check_rule, (at 84 85, part example.table_tokens 26 15, [], refl, foreign_rule, refl))));
+  elements = (
+    part example.table_tokens 4 4,
+    part example.table_tokens 8 33,
+    refl,
+    primary_column,
+    (
+      at 37 38,
+      part example.table_tokens 9 9,
+      part example.table_tokens 18 23,
+      refl,
+      text_column,
+      (at 69 70, part example.table_tokens 19 6, part example.table_tokens 25 16, refl, check_rule, (at 84 85, part example.table_tokens 26 15, [], refl, foreign_rule, refl)),
+    ),
+  );
 }
 
 short_column : table.SpellsElement (element.Column (name (codes "A") 18 19) (type.Text (pos 1) (at 20 24)) (rule.Foreign (name (codes "A") 18 19 ∷ []) (name (codes "S") 36 37) [] (at 25 37) ∷ [])) (part example.schema_tokens 5 4)
-short_column =
-    (false, part example.schema_tokens 6 1, [], part example.schema_tokens 7 2, refl, table.single (codes "CHAR") (at 20 24) refl refl (inl refl), table.no_default refl,
-    table.more_rules _ [] [] (part example.schema_tokens 7 2) [] refl refl (table.unnamed refl)
-    (table.references (name (codes "S") 36 37) [] (at 25 35) refl (lit≤ tt) (record { quoted = false; listed = []; rest = []; whole = refl; names = refl; actions = table.no_actions refl }))
-    (table.no_rules refl refl))
+short_column = (
+  false,
+  part example.schema_tokens 6 1,
+  [],
+  part example.schema_tokens 7 2,
+  refl,
+  table.single (codes "CHAR") (at 20 24) refl refl (inl refl),
+  table.no_default refl,
+  table.more_rules _ [] [] (part example.schema_tokens 7 2) [] refl refl (table.unnamed refl)
+      (table.references (name (codes "S") 36 37) [] (at 25 35) refl (lit≤ tt) (record { quoted = false; listed = []; rest = []; whole = refl; names = refl; actions = table.no_actions refl }))
+      (table.no_rules refl refl),
+)
 
 pub schema_spelled : schema.SpellsSchema example.schema_trees example.schema_tokens
 schema_spelled =

@@ -26,3 +26,6 @@ pub mod OneSelects
 pub mod OneQueries
 pub mod OneTables
 pub mod OneSchemas
+pub mod GrammarBegins
+pub mod GrammarRefused
+pub mod GrammarTerms

@@ -1,5 +1,5 @@
 -- A predicate is read in one way, with a subquery where one is.
-use Rattle.std.proofs.Common.{ℕ, ◌+◌, ◌≤◌, ◌≡◌, refl, ◌∙◌, Bool, true, false, cond, eqb, List, [], ◌∷◌, ◌++◌, Option, Some, None, lit≤, arith}
+use Rattle.std.proofs.Common.{ℕ, ◌+◌, ◌≤◌, ◌≡◌, refl, ◌∙◌, Bool, true, false, cond, eqb, List, [], ◌∷◌, ◌++◌, Option, Some, None, lit≤, arith, sym}
 use Rattle.std.proofs.lemmas.List.{append_assoc}
 use Rattle.lint_tables.specs.declared.op.Op.{Op}
 use Rattle.sql_lex.specs.declared.token.Sign.TheVariants.{Open, Close, Compare as Operator}
@@ -16,7 +16,7 @@ use Rattle.sql_parse.specs.grammar.Terms as term
 use Rattle.sql_parse.specs.grammar.Terms.{SpellsTerm, SpellsValue, SpellsColumn}
 use Rattle.sql_parse.specs.grammar.Predicates as predicate
 use Rattle.sql_parse.specs.grammar.Predicates.{SpellsNot, SpellsPredicate, SpellsCompare, SpellsIsNull, SpellsBetween, SpellsInList}
-use Rattle.sql_parse.proofs.OneTokens.{Found, found, and_then, at_head, is_open, is_star, is_word, kind_rank, place_rank, rank, one_found}
+use Rattle.sql_parse.proofs.OneTokens.{Found, found, and_then, at_head, is_open, is_star, is_word, kind_rank, place_rank, rank, one_found, regroup}
 use Rattle.sql_parse.proofs.OneTerms.{read_term, term_read, read_value, value_read}
 use Rattle.sql_parse.proofs.OneLists.{Reads, read_list, list_reads}
 
@@ -126,6 +126,18 @@ unfolding Heads
 values_heads [] tokens s rest = absurd s
 values_heads (part ∷ parts) tokens s rest = rw (s.2, append_assoc s.0 s.1 rest) (value_heads part s.0 s.3 (s.1 ++ rest)).3
 
+-- the tokens of a predicate from left to right
+pub is_null_whole : (tree : CondTree) (tokens : List Token) (s : SpellsIsNull tree tokens) → tokens ≡ s.own ++ word IS s.is_at ∷ s.not_word ++ word NULL s.null_at ∷ []
+is_null_whole tree tokens s = s.whole ∙ sym (append_assoc s.own (word IS s.is_at ∷ s.not_word) (word NULL s.null_at ∷ []))
+
+pub between_whole : (tree : CondTree) (tokens : List Token) (s : SpellsBetween tree tokens) →
+    tokens ≡ s.own ++ s.not_word ++ word BETWEEN s.between_at ∷ s.lower ++ word AND s.and_at ∷ s.upper
+between_whole tree tokens s = s.whole ∙ regroup s.own s.not_word (word BETWEEN s.between_at ∷ s.lower) (word AND s.and_at ∷ s.upper)
+
+pub in_list_whole : (tree : CondTree) (tokens : List Token) (s : SpellsInList tree tokens) →
+    tokens ≡ s.own ++ s.not_word ++ word IN s.in_at ∷ sign Open s.open_at ∷ s.listed ++ sign Close s.close_at ∷ []
+in_list_whole tree tokens s = s.whole ∙ regroup s.own s.not_word (word IN s.in_at ∷ sign Open s.open_at ∷ s.listed) (sign Close s.close_at ∷ [])
+
 module _ (sub : List Token → Found SelectTree) where
   compare_read : (tree : CondTree) (tokens : List Token) → SpellsCompare tree tokens → (fuel : ℕ) (rest : List Token) → 2 ≤ rank rest →
       read_predicate sub fuel (tokens ++ rest) ≡ found tree tokens rest
@@ -140,7 +152,7 @@ module _ (sub : List Token → Found SelectTree) where
       read_predicate sub fuel (tokens ++ rest) ≡ found tree tokens rest
   unfolding predicate_rest predicate_from null_rest null_last and_then at_head is_word rank kind_rank place_rank
   is_null_read tree tokens s fuel rest =
-      rw (s.tree_is, s.whole, append_assoc (s.own ++ word IS s.is_at ∷ s.not_word) (word NULL s.null_at ∷ []) rest, append_assoc s.own (word IS s.is_at ∷ s.not_word) (word NULL s.null_at ∷ rest))
+      rw (s.tree_is, is_null_whole tree tokens s, append_assoc (s.own ++ word IS s.is_at ∷ s.not_word) (word NULL s.null_at ∷ []) rest, append_assoc s.own (word IS s.is_at ∷ s.not_word) (word NULL s.null_at ∷ rest))
       (predicate_parts sub fuel s.term false s.own [] (word IS s.is_at ∷ s.not_word ++ word NULL s.null_at ∷ rest) s.own_term refl refl (lit≤ tt)
       ∙ rw (not_read s.negated s.not_word s.negation (word NULL s.null_at ∷ rest) refl) refl)
 
@@ -150,7 +162,7 @@ module _ (sub : List Token → Found SelectTree) where
   between_read tree tokens s fuel rest r =
       let high : List Token = word AND s.and_at ∷ s.upper in
       let low : List Token = word BETWEEN s.between_at ∷ s.lower in
-      rw (s.tree_is, s.whole, append_assoc (s.own ++ s.not_word ++ low) high rest, append_assoc (s.own ++ s.not_word) low (high ++ rest), append_assoc s.own s.not_word (low ++ (high ++ rest)))
+      rw (s.tree_is, between_whole tree tokens s, append_assoc (s.own ++ s.not_word ++ low) high rest, append_assoc (s.own ++ s.not_word) low (high ++ rest), append_assoc s.own s.not_word (low ++ (high ++ rest)))
       (predicate_parts sub fuel s.term s.negated s.own s.not_word (low ++ (high ++ rest)) s.own_term s.negation refl (not_rank s.negated s.not_word s.negation (low ++ (high ++ rest)) (lit≤ tt))
       ∙ rw (term_read s.low s.lower s.low_term (high ++ rest) (lit≤ tt), term_read s.high s.upper s.high_term rest r) refl)
 
@@ -170,7 +182,7 @@ in_list_read tree tokens s =
     let inside : List Token = word IN s.in_at ∷ sign Open s.open_at ∷ s.listed in (
       reads.0,
       λ sub fuel h rest r.
-          rw (s.tree_is, s.whole, append_assoc (s.own ++ s.not_word ++ inside) close rest, append_assoc (s.own ++ s.not_word) inside (close ++ rest), append_assoc s.own s.not_word (inside ++ (close ++ rest)))
+          rw (s.tree_is, in_list_whole tree tokens s, append_assoc (s.own ++ s.not_word ++ inside) close rest, append_assoc (s.own ++ s.not_word) inside (close ++ rest), append_assoc s.own s.not_word (inside ++ (close ++ rest)))
           (predicate_parts sub fuel s.term s.negated s.own s.not_word (inside ++ (close ++ rest)) s.own_term s.negation refl (not_rank s.negated s.not_word s.negation (inside ++ (close ++ rest)) (lit≤ tt))
           ∙ rw (values_heads s.values s.listed s.values_listed (close ++ rest), reads.1 fuel h (close ++ rest) (lit≤ tt)) refl),
     )

@@ -1,9 +1,9 @@
 -- A declaration of a table is read in one way.
-use Rattle.std.proofs.Common.{ℕ, ℤ, pos, zero, suc, ◌+◌, ◌≤◌, ◌≡◌, refl, ap, sym, ◌∙◌, Bool, true, false, cond, eqb, leb, List, [], ◌∷◌, ◌++◌, length, Option, Some, None, lit≤, arith, codes, ◌⊎◌, inl, inr}
+use Rattle.std.proofs.Common.{ℕ, zero, suc, ◌+◌, ◌≤◌, ◌≡◌, refl, sym, ◌∙◌, Bool, true, false, cond, leb, List, [], ◌∷◌, ◌++◌, None, lit≤, arith, codes}
 use Rattle.std.proofs.lemmas.List.{append_assoc, append-nil}
 use Rattle.std.proofs.lemmas.Bool.{leb-true}
 use Rattle.lint_base.specs.declared.place.Span.{Span}
-use Rattle.sql_lex.specs.declared.token.Sign.TheVariants.{Open, Close, Semicolon}
+use Rattle.sql_lex.specs.declared.token.Sign.TheVariants.{Close, Semicolon}
 use Rattle.sql_lex.specs.declared.token.Kind.{Kind}
 use Rattle.sql_lex.specs.declared.token.Kind.TheVariants as kind
 use Rattle.sql_lex.specs.declared.token.Token.{Token}
@@ -15,16 +15,15 @@ use Rattle.sql_tree.specs.declared.schema.RuleTree.TheVariants.{NotNull, Unique,
 use Rattle.sql_tree.specs.declared.schema.Element.{Element}
 use Rattle.sql_tree.specs.declared.schema.Element.TheVariants as element
 use Rattle.sql_tree.specs.declared.schema.CreateTable.{CreateTable}
-use Rattle.sql_parse.specs.grammar.Words.{word, called, sign, number, CHECK, CONSTRAINT, CREATE, FOREIGN, NOT, NULL, ON, PRIMARY, REFERENCES, TABLE, UNIQUE}
-use Rattle.sql_parse.specs.grammar.Lists.{SpellsList}
-use Rattle.sql_parse.specs.grammar.Names.{name_token, SpellsNames}
+use Rattle.sql_parse.specs.grammar.Words.{sign, CHECK, CONSTRAINT, CREATE, NOT, NULL, ON, PRIMARY, UNIQUE}
+use Rattle.sql_parse.specs.grammar.Names.{name_token}
 use Rattle.sql_parse.specs.grammar.Selects.{Disjunction}
 use Rattle.sql_parse.specs.grammar.Tables as table
 use Rattle.sql_parse.specs.grammar.Tables.{last_end, SpellsType, SpellsDefault, SpellsConstraint, SpellsReference, SpellsCheck, SpellsColumnRule, SpellsColumnRules, SpellsTableRule, SpellsElement, SpellsCreate}
 use Rattle.sql_parse.specs.grammar.Schemas as schema
 use Rattle.sql_parse.specs.grammar.Schemas.{SpellsStatement, SpellsSchema}
 use Rattle.sql_parse.proofs.OneTokens.{Found, found, and_then, at_head, is_name, is_open, is_word, kind_rank, place_rank, rank, no_name, no_open, no_word, one_found}
-use Rattle.sql_parse.proofs.OneTerms.{read_name, name_from, name_read}
+use Rattle.sql_parse.proofs.OneTerms.{read_name, name_from}
 use Rattle.sql_parse.proofs.OneLists.{Reads, read_list, list_reads}
 use Rattle.sql_parse.proofs.OnePredicates.{one_read}
 use Rattle.sql_parse.proofs.OneConditions.{skip, read_cond}
@@ -39,9 +38,11 @@ read_check fuel tokens =
 check_reads : (tree : CondTree) (tokens : List Token) → SpellsCheck tree tokens → Reads read_check 0 tree tokens
 unfolding read_check skip and_then
 check_reads tree tokens s =
-    let reads = cond_reads Disjunction tree s.own s.condition in
-    (suc reads.0, λ fuel h rest r.
-      rw (s.whole, append_assoc s.own (sign Close s.close_at ∷ []) rest, whole_cond tree s.own reads fuel h (sign Close s.close_at ∷ rest) (close_rank 4 (lit≤ tt) s.close_at rest)) refl)
+    let reads = cond_reads Disjunction tree s.own s.condition in (
+      suc reads.0,
+      λ fuel h rest r.
+          rw (s.whole, append_assoc s.own (sign Close s.close_at ∷ []) rest, whole_cond tree s.own reads fuel h (sign Close s.close_at ∷ rest) (close_rank 4 (lit≤ tt) s.close_at rest)) refl,
+    )
 
 abbrev foreign_tree : List NameTree → Span → NameTree × List NameTree → RuleTree
 foreign_tree columns at r = Foreign columns r.0 r.1 (record { from = at.from; to = last_end r.0 r.1 })
@@ -50,12 +51,12 @@ foreign_tree columns at r = Foreign columns r.0 r.1 (record { from = at.from; to
 unfoldable pub read_column_rule : NameTree → ℕ → List Token → Found (List RuleTree)
 read_column_rule column fuel tokens =
     skip (λ t rest.
-      cond (is_word NOT t.kind) (skip (λ u left. found (NotNull ∷ []) (t ∷ u ∷ []) left) rest)
-      (cond (is_word NULL t.kind) (found [] (t ∷ []) rest)
-      (cond (is_word UNIQUE t.kind) (found (Unique (column ∷ []) ∷ []) (t ∷ []) rest)
-      (cond (is_word PRIMARY t.kind) (skip (λ u left. found (Primary (column ∷ []) t.span ∷ []) (t ∷ u ∷ []) left) rest)
-      (cond (is_word CHECK t.kind) (and_then (read_check fuel (t ∷ rest)) (λ tree own left. found (Check tree ∷ []) own left))
-      (and_then (read_reference fuel (t ∷ rest)) (λ r own left. found (foreign_tree (column ∷ []) t.span r ∷ []) own left))))))) tokens
+    cond (is_word NOT t.kind) (skip (λ u left. found (NotNull ∷ []) (t ∷ u ∷ []) left) rest)
+    (cond (is_word NULL t.kind) (found [] (t ∷ []) rest)
+    (cond (is_word UNIQUE t.kind) (found (Unique (column ∷ []) ∷ []) (t ∷ []) rest)
+    (cond (is_word PRIMARY t.kind) (skip (λ u left. found (Primary (column ∷ []) t.span ∷ []) (t ∷ u ∷ []) left) rest)
+    (cond (is_word CHECK t.kind) (and_then (read_check fuel (t ∷ rest)) (λ tree own left. found (Check tree ∷ []) own left))
+    (and_then (read_reference fuel (t ∷ rest)) (λ r own left. found (foreign_tree (column ∷ []) t.span r ∷ []) own left))))))) tokens
 
 check_begins : (column : NameTree) (fuel : ℕ) (tree : CondTree) (tokens : List Token) → SpellsCheck tree tokens → (rest : List Token) →
     read_column_rule column fuel (tokens ++ rest) ≡ and_then (read_check fuel (tokens ++ rest)) (λ tree own left. found (Check tree ∷ []) own left)
@@ -132,13 +133,13 @@ rules_done rest h = decided (leb (rank rest) 5) refl
 rules_plain : (column : NameTree) (rules : List RuleTree) (tokens : List Token) → SpellsColumnRules column rules tokens → (rest : List Token) → 6 ≤ rank rest → Plain (tokens ++ rest)
 rules_plain column rules tokens (table.no_rules e whole) rest h = rw whole (ended rest h)
 rules_plain column rules tokens (table.more_rules left others constraint own more e whole c s t) rest h =
-    rw (whole, append_assoc (constraint ++ own) more rest, append_assoc constraint own (more ++ rest)) (named_begun constraint c (own ++ (more ++ rest)) (column_rule_begun column left own s (more ++ rest))).0
+    rw (whole, append_assoc constraint (own ++ more) rest, append_assoc own more rest) (named_begun constraint c (own ++ (more ++ rest)) (column_rule_begun column left own s (more ++ rest))).0
 
 -- the rules of a column
 unfoldable pub rules_first : NameTree → ℕ → (List Token → Found (List RuleTree)) → List Token → Found (List RuleTree)
 rules_first column part_fuel again tokens =
     and_then (read_constraint tokens) (λ b constraint at_rule. and_then (read_column_rule column part_fuel at_rule) (λ rules own left. and_then (again left) (λ others more after.
-      found (rules ++ others) (constraint ++ own ++ more) after)))
+    found (rules ++ others) (constraint ++ own ++ more) after)))
 
 unfoldable pub read_rules : NameTree → ℕ → ℕ → List Token → Found (List RuleTree)
 read_rules column part_fuel zero tokens = None
@@ -161,15 +162,21 @@ more_rules_step column left others constraint own more c s t reads part_fuel zer
 more_rules_step column left others constraint own more c s t reads part_fuel (suc fuel) rule g h rest r =
     let begun = column_rule_begun column left own s (more ++ rest) in
     let plain = rules_plain column others more t rest r in
-    rw (append_assoc (constraint ++ own) more rest, append_assoc constraint own (more ++ rest), (named_begun constraint c (own ++ (more ++ rest)) begun).1,
-        constraint_read constraint c (own ++ (more ++ rest)) begun.1, rule.1 part_fuel (omega arith) (more ++ rest) plain.0 plain.1, reads.1 part_fuel fuel (omega arith) (omega arith) rest r) refl
+    rw (
+      append_assoc (constraint ++ own) more rest,
+      append_assoc constraint own (more ++ rest),
+      (named_begun constraint c (own ++ (more ++ rest)) begun).1,
+      constraint_read constraint c (own ++ (more ++ rest)) begun.1,
+      rule.1 part_fuel (omega arith) (more ++ rest) plain.0 plain.1,
+      reads.1 part_fuel fuel (omega arith) (omega arith) rest r,
+    ) refl
 
 rules_reads : (column : NameTree) (rules : List RuleTree) (tokens : List Token) → SpellsColumnRules column rules tokens → ReadsRules column rules tokens
 rules_reads column rules tokens (table.no_rules e whole) = (1, λ part_fuel fuel g h rest r. rw (e, whole) (no_rules_step column part_fuel fuel h rest r))
 rules_reads column rules tokens (table.more_rules left others constraint own more e whole c s t) =
     let reads = rules_reads column others more t in
     let rule = column_rule_reads column left own s in
-    (suc (rule.0 + reads.0), λ part_fuel fuel g h rest r. rw (e, whole) (more_rules_step column left others constraint own more c s t reads part_fuel fuel rule g h rest r))
+    (suc (rule.0 + reads.0), λ part_fuel fuel g h rest r. rw (e, whole ∙ sym (append_assoc constraint own more)) (more_rules_step column left others constraint own more c s t reads part_fuel fuel rule g h rest r))
 
 -- a rule beside the columns
 unfoldable pub read_foreign : ℕ → Token → List Token → Found RuleTree
@@ -179,10 +186,10 @@ read_foreign fuel t rest =
 unfoldable pub read_table_rule : ℕ → List Token → Found RuleTree
 read_table_rule fuel tokens =
     skip (λ t rest.
-      cond (is_word UNIQUE t.kind) (and_then (read_names fuel rest) (λ columns listed left. found (Unique columns) (t ∷ listed) left))
-      (cond (is_word PRIMARY t.kind) (skip (λ u later. and_then (read_names fuel later) (λ columns listed left. found (Primary columns t.span) (t ∷ u ∷ listed) left)) rest)
-      (cond (is_word CHECK t.kind) (and_then (read_check fuel (t ∷ rest)) (λ tree own left. found (Check tree) own left))
-      (read_foreign fuel t rest)))) tokens
+    cond (is_word UNIQUE t.kind) (and_then (read_names fuel rest) (λ columns listed left. found (Unique columns) (t ∷ listed) left))
+    (cond (is_word PRIMARY t.kind) (skip (λ u later. and_then (read_names fuel later) (λ columns listed left. found (Primary columns t.span) (t ∷ u ∷ listed) left)) rest)
+    (cond (is_word CHECK t.kind) (and_then (read_check fuel (t ∷ rest)) (λ tree own left. found (Check tree) own left))
+    (read_foreign fuel t rest)))) tokens
 
 table_check_begins : (fuel : ℕ) (tree : CondTree) (tokens : List Token) → SpellsCheck tree tokens → (rest : List Token) →
     read_table_rule fuel (tokens ++ rest) ≡ and_then (read_check fuel (tokens ++ rest)) (λ tree own left. found (Check tree) own left)
@@ -191,27 +198,29 @@ table_check_begins fuel tree tokens s rest = rw s.whole refl
 
 table_rule_reads : (rule : RuleTree) (tokens : List Token) → SpellsTableRule rule tokens → ReadsRule read_table_rule rule tokens
 unfolding read_table_rule read_foreign skip is_word and_then ReadsReference
-table_rule_reads rule tokens (table.unique columns at listed e whole s) =
+table_rule_reads rule tokens (table.unique_names columns at listed e whole s) =
     let reads = names_reads columns listed s in
     (reads.0, λ fuel h rest f g. rw (e, whole, reads.1 fuel h rest (omega arith)) refl)
-table_rule_reads rule tokens (table.primary columns at key_at listed e whole s) =
+table_rule_reads rule tokens (table.primary_names columns at key_at listed e whole s) =
     let reads = names_reads columns listed s in
     (reads.0, λ fuel h rest f g. rw (e, whole, reads.1 fuel h rest (omega arith)) refl)
-table_rule_reads rule tokens (table.check tree e s) =
+table_rule_reads rule tokens (table.table_check tree e s) =
     let reads = check_reads tree tokens s in
     (reads.0, λ fuel h rest f g. table_check_begins fuel tree tokens s rest ∙ rw (reads.1 fuel h rest (omega arith), e) refl)
-table_rule_reads rule tokens (table.foreign columns name target at key_at references_at listed more e whole s t) =
+table_rule_reads rule tokens (table.foreign_names columns name target at key_at references_at listed more e whole s t) =
     let names = names_reads columns listed s in
-    let reference = reference_reads name target references_at more t in
-    (names.0 + reference.0, λ fuel h rest f g.
-      rw (e, whole, append_assoc listed more rest, names.1 fuel (omega arith) (more ++ rest) (omega arith), reference.1 fuel (omega arith) rest f g) refl)
+    let reference = reference_reads name target references_at more t in (
+      names.0 + reference.0,
+      λ fuel h rest f g.
+          rw (e, whole, append_assoc listed more rest, names.1 fuel (omega arith) (more ++ rest) (omega arith), reference.1 fuel (omega arith) rest f g) refl,
+    )
 
 table_rule_begun : (rule : RuleTree) (tokens : List Token) → SpellsTableRule rule tokens → (rest : List Token) → (at_head is_name (tokens ++ rest) ≡ false) × (at_head (is_word CONSTRAINT) (tokens ++ rest) ≡ false)
 unfolding at_head is_name is_word
-table_rule_begun rule tokens (table.unique columns at listed e whole s) rest = rw whole (refl, refl)
-table_rule_begun rule tokens (table.primary columns at key_at listed e whole s) rest = rw whole (refl, refl)
-table_rule_begun rule tokens (table.check tree e s) rest = rw s.whole (refl, refl)
-table_rule_begun rule tokens (table.foreign columns name target at key_at references_at listed more e whole s t) rest = rw whole (refl, refl)
+table_rule_begun rule tokens (table.unique_names columns at listed e whole s) rest = rw whole (refl, refl)
+table_rule_begun rule tokens (table.primary_names columns at key_at listed e whole s) rest = rw whole (refl, refl)
+table_rule_begun rule tokens (table.table_check tree e s) rest = rw s.whole (refl, refl)
+table_rule_begun rule tokens (table.foreign_names columns name target at key_at references_at listed more e whole s t) rest = rw whole (refl, refl)
 
 named_no_name : (constraint : List Token) → SpellsConstraint constraint → (rest : List Token) → at_head is_name rest ≡ false → at_head is_name (constraint ++ rest) ≡ false
 unfolding at_head is_name
@@ -227,7 +236,7 @@ default_plain tokens (table.«default» term at own e s) rest p = rw e (refl, re
 unfoldable pub read_column_element : ℕ → List Token → Found Element
 read_column_element fuel tokens =
     and_then (read_name tokens) (λ name own at_type. and_then (read_type at_type) (λ kind typed at_default. and_then (read_default at_default) (λ b defaulted at_rules.
-      and_then (read_rules name fuel fuel at_rules) (λ rules ruled after. found (element.Column name kind rules) (own ++ typed ++ defaulted ++ ruled) after))))
+    and_then (read_rules name fuel fuel at_rules) (λ rules ruled after. found (element.Column name kind rules) (own ++ typed ++ defaulted ++ ruled) after))))
 
 unfoldable pub read_rule_element : ℕ → List Token → Found Element
 read_rule_element fuel tokens =
@@ -253,31 +262,37 @@ rule_step fuel rule constraint own rest h e f = rw (append_assoc constraint own 
 
 element_reads : (tree : Element) (tokens : List Token) → SpellsElement tree tokens → Reads read_element 6 tree tokens
 element_reads (element.Column name kind rules) tokens s =
-    let reads = rules_reads name rules s.3 s.7 in
-    (reads.0, λ fuel h rest r.
-      let plain = rules_plain name rules s.3 s.7 rest r in
-      let after = default_plain s.2 s.6 (s.3 ++ rest) plain in
-      rw s.4 (column_step fuel name kind rules s.0 s.1 s.2 s.3 rest
-        (type_read kind s.1 s.5 (s.2 ++ (s.3 ++ rest)) after.0 after.1) (default_read s.2 s.6 (s.3 ++ rest) plain.2) (reads.1 fuel fuel h h rest r)))
+    let reads = rules_reads name rules s.3 s.7 in (
+      reads.0,
+      λ fuel h rest r.
+          let plain = rules_plain name rules s.3 s.7 rest r in
+          let after = default_plain s.2 s.6 (s.3 ++ rest) plain in
+          rw (s.4 ∙ sym (append_assoc (name_token name s.0 ∷ s.1) s.2 s.3)) (column_step fuel name kind rules s.0 s.1 s.2 s.3 rest
+          (type_read kind s.1 s.5 (s.2 ++ (s.3 ++ rest)) after.0 after.1) (default_read s.2 s.6 (s.3 ++ rest) plain.2) (reads.1 fuel fuel h h rest r)),
+    )
 element_reads (element.Rule rule) tokens s =
-    let reads = table_rule_reads rule s.1 s.4 in
-    (reads.0, λ fuel h rest r.
-      let begun = table_rule_begun rule s.1 s.4 rest in
-      let plain = ended rest r in
-      rw s.2 (rule_step fuel rule s.0 s.1 rest (named_no_name s.0 s.3 (s.1 ++ rest) begun.0) (constraint_read s.0 s.3 (s.1 ++ rest) begun.1) (reads.1 fuel h rest plain.0 plain.1)))
+    let reads = table_rule_reads rule s.1 s.4 in (
+      reads.0,
+      λ fuel h rest r.
+          let begun = table_rule_begun rule s.1 s.4 rest in
+          let plain = ended rest r in
+          rw s.2 (rule_step fuel rule s.0 s.1 rest (named_no_name s.0 s.3 (s.1 ++ rest) begun.0) (constraint_read s.0 s.3 (s.1 ++ rest) begun.1) (reads.1 fuel h rest plain.0 plain.1)),
+    )
 
 -- a table
 unfoldable pub create_first : ℕ → List Token → Found CreateTable
 create_first fuel tokens =
     skip (λ t at_table. skip (λ u at_name. and_then (read_name at_name) (λ name own at_open. skip (λ v at_list. and_then (read_list (read_element fuel) fuel at_list) (λ elements listed at_close.
-      skip (λ w after. found (record { name = name; elements = elements }) (t ∷ u ∷ own ++ v ∷ listed ++ w ∷ []) after) at_close)) at_open)) at_table) tokens
+    skip (λ w after. found (record { name = name; elements = elements }) (t ∷ u ∷ own ++ v ∷ listed ++ w ∷ []) after) at_close)) at_open)) at_table) tokens
 
 pub create_reads : (tree : CreateTable) (tokens : List Token) → SpellsCreate tree tokens → Reads create_first 0 tree tokens
 unfolding create_first skip and_then read_name name_from
 create_reads tree tokens s =
-    let reads = list_reads SpellsElement read_element 6 (lit≤ tt) element_reads tree.elements s.listed s.elements in
-    (reads.0, λ fuel h rest r.
-      rw (s.whole, append_assoc s.listed (sign Close s.close_at ∷ []) rest, reads.1 fuel h (sign Close s.close_at ∷ rest) (close_rank 7 (lit≤ tt) s.close_at rest)) refl)
+    let reads = list_reads SpellsElement read_element 6 (lit≤ tt) element_reads tree.elements s.listed s.elements in (
+      reads.0,
+      λ fuel h rest r.
+          rw (s.whole, append_assoc s.listed (sign Close s.close_at ∷ []) rest, reads.1 fuel h (sign Close s.close_at ∷ rest) (close_rank 7 (lit≤ tt) s.close_at rest)) refl,
+    )
 
 pub one_table : (tokens : List Token) → (left right : CreateTable) → SpellsCreate left tokens → SpellsCreate right tokens → left ≡ right
 one_table tokens left right l r = one_read create_first 0 (omega arith) left right tokens (create_reads left tokens l) (create_reads right tokens r)
@@ -335,16 +350,20 @@ no_tokens = refl
 
 schema_reads : (trees : List CreateTable) (tokens : List Token) → SpellsSchema trees tokens → ReadsSchema trees tokens
 schema_reads trees tokens (schema.last s) =
-    let reads = statement_reads trees tokens s in
-    (suc reads.0, λ part_fuel fuel g h.
-      let alone : read_statement part_fuel (tokens ++ []) ≡ found trees tokens [] = reads.1 part_fuel (omega arith) [] no_tokens in
-      last_statement part_fuel fuel (omega arith) trees tokens (rw (append-nil tokens) at alone))
+    let reads = statement_reads trees tokens s in (
+      suc reads.0,
+      λ part_fuel fuel g h.
+          let alone : read_statement part_fuel (tokens ++ []) ≡ found trees tokens [] = reads.1 part_fuel (omega arith) [] no_tokens in
+          last_statement part_fuel fuel (omega arith) trees tokens (rw (append-nil tokens) at alone),
+    )
 schema_reads trees tokens (schema.more left others own semicolon_at rest e whole s t) =
     let first = statement_reads left own s in
-    let reads = schema_reads others rest t in
-    (suc (first.0 + reads.0), λ part_fuel fuel g h.
-      rw (e, whole) (more_statements left others own semicolon_at rest reads part_fuel fuel (omega arith) (omega arith)
-        (first.1 part_fuel (omega arith) (sign Semicolon semicolon_at ∷ rest) (no_create semicolon_at rest))))
+    let reads = schema_reads others rest t in (
+      suc (first.0 + reads.0),
+      λ part_fuel fuel g h.
+          rw (e, whole) (more_statements left others own semicolon_at rest reads part_fuel fuel (omega arith) (omega arith)
+          (first.1 part_fuel (omega arith) (sign Semicolon semicolon_at ∷ rest) (no_create semicolon_at rest))),
+    )
 
 pub one_schema : (tokens : List Token) → (left right : List CreateTable) → SpellsSchema left tokens → SpellsSchema right tokens → left ≡ right
 one_schema tokens left right l r =

@@ -1,5 +1,5 @@
 -- A SELECT is read in one way: each step of it, and the induction over the derivations.
-use Rattle.std.proofs.Common.{ℕ, zero, suc, ◌+◌, ◌≤◌, ◌≡◌, refl, ◌∙◌, Bool, true, false, List, [], ◌∷◌, ◌++◌, length, Option, Some, None, lit≤, arith, inl, inr}
+use Rattle.std.proofs.Common.{ℕ, zero, suc, ◌+◌, ◌≤◌, ◌≡◌, refl, ◌∙◌, Bool, true, false, List, [], ◌∷◌, ◌++◌, length, Option, Some, None, lit≤, arith, inl, inr, sym}
 use Rattle.std.proofs.lemmas.List.{append_assoc}
 use Rattle.lint_base.specs.declared.place.Span.{Span}
 use Rattle.sql_lex.specs.declared.token.Sign.TheVariants.{Open, Close, Comma, Compare as Operator}
@@ -19,9 +19,9 @@ use Rattle.sql_parse.specs.grammar.Predicates.{SpellsPredicate, SpellsNot}
 use Rattle.sql_parse.specs.grammar.Items.{SpellsQuantifier, SpellsItems, SpellsEntry}
 use Rattle.sql_parse.specs.grammar.Selects as c
 use Rattle.sql_parse.specs.grammar.Selects.{alone_or, select_tree, entry_tree, Level, Disjunction, Conjunction, Factor, Primary, SpellsCond, SpellsJoined, SpellsSubquery, SpellsSelect, SpellsWhere, SpellsGroups, SpellsGroup, SpellsJoins}
-use Rattle.sql_parse.proofs.OneTokens.{Found, found, and_then, at_head, is_comma, is_open, is_word, kind_rank, place_rank, rank, no_comma, no_word}
+use Rattle.sql_parse.proofs.OneTokens.{Found, found, and_then, at_head, is_comma, is_open, is_word, kind_rank, place_rank, rank, no_comma, no_word, regroup}
 use Rattle.sql_parse.proofs.OneLists.{Reads}
-use Rattle.sql_parse.proofs.OnePredicates.{Heads, term_heads, predicate_reads, one_read}
+use Rattle.sql_parse.proofs.OnePredicates.{Heads, term_heads, predicate_reads, one_read, is_null_whole, between_whole, in_list_whole}
 use Rattle.sql_parse.proofs.OneItems.{read_quantifier, items_quantified, read_items, items_reads, read_entry, entry_read}
 use Rattle.sql_parse.proofs.OneConditions.{skip, read_joined, Parts, placed, is_join, read_inner, cross_joined, inner_joined, read_joins, read_group, groups_after, read_groups, read_where, read_select, read_subquery, read_primary, read_level, read_cond, level_rank, parenthesized_step, exists_step, predicate_primary, scalar_step, in_select_step, plain_step, negation_step, conjunction_step, disjunction_step, last_step, more_step}
 
@@ -164,16 +164,16 @@ predicate_head tree tokens (predicate.compare s) rest =
 predicate_head tree tokens (predicate.is_null s) rest =
     let tail : List Token = word IS s.is_at ∷ s.not_word in
     let end : List Token = word NULL s.null_at ∷ [] in
-    rw (s.whole, append_assoc s.own tail end) (begins_with s.own (tail ++ end) rest (term_heads s.term s.own s.own_term (tail ++ end ++ rest)))
+    rw (is_null_whole tree tokens s, append_assoc s.own tail end) (begins_with s.own (tail ++ end) rest (term_heads s.term s.own s.own_term (tail ++ end ++ rest)))
 predicate_head tree tokens (predicate.between s) rest =
     let tail : List Token = word BETWEEN s.between_at ∷ s.lower in
     let end : List Token = word AND s.and_at ∷ s.upper in
-    rw (s.whole, append_assoc (s.own ++ s.not_word) tail end, append_assoc s.own s.not_word (tail ++ end))
+    rw (between_whole tree tokens s, append_assoc (s.own ++ s.not_word) tail end, append_assoc s.own s.not_word (tail ++ end))
     (begins_with s.own (s.not_word ++ (tail ++ end)) rest (term_heads s.term s.own s.own_term (s.not_word ++ (tail ++ end) ++ rest)))
 predicate_head tree tokens (predicate.in_list s) rest =
     let tail : List Token = word IN s.in_at ∷ sign Open s.open_at ∷ s.listed in
     let end : List Token = sign Close s.close_at ∷ [] in
-    rw (s.whole, append_assoc (s.own ++ s.not_word) tail end, append_assoc s.own s.not_word (tail ++ end))
+    rw (in_list_whole tree tokens s, append_assoc (s.own ++ s.not_word) tail end, append_assoc s.own s.not_word (tail ++ end))
     (begins_with s.own (s.not_word ++ (tail ++ end)) rest (term_heads s.term s.own s.own_term (s.not_word ++ (tail ++ end) ++ rest)))
 
 primary_head : (tree : CondTree) (tokens : List Token) → SpellsCond Primary tree tokens → (rest : List Token) → at_head (is_word NOT) (tokens ++ rest) ≡ false
@@ -184,7 +184,7 @@ primary_head tree tokens (c.scalar op left select own op_at inner e whole s t u)
     rw whole (begins_with own (sign (Operator op) op_at ∷ inner) rest (term_heads left own s (sign (Operator op) op_at ∷ inner ++ rest))).1
 primary_head tree tokens (c.in_select term select negated own not_word in_at inner e whole s t u) rest =
     let tail : List Token = word IN in_at ∷ inner in
-    rw (whole, append_assoc own not_word tail) (begins_with own (not_word ++ tail) rest (term_heads term own s (not_word ++ tail ++ rest))).1
+    rw whole (begins_with own (not_word ++ tail) rest (term_heads term own s (not_word ++ tail ++ rest))).1
 primary_head tree tokens (c.predicate s) rest = (predicate_head tree tokens s rest).1
 
 -- the reading of each kind of derivation
@@ -482,7 +482,7 @@ mutual
   cond_reads Primary tree tokens (c.scalar op left select own op_at inner e whole s t u) =
       scalar_case tree op left select tokens own op_at inner e whole s t (subquery_reads select inner t)
   cond_reads Primary tree tokens (c.in_select term select negated own not_word in_at inner e whole s n t) =
-      in_select_case tree term select negated tokens own not_word in_at inner e whole s n t (subquery_reads select inner t)
+      in_select_case tree term select negated tokens own not_word in_at inner e (whole ∙ sym (append_assoc own not_word (word IN in_at ∷ inner))) s n t (subquery_reads select inner t)
   cond_reads Primary tree tokens (c.predicate s) = predicate_case tree tokens s
 
   joined_reads : (level : Level) (joint : ℕ) (parts : List CondTree) (tokens : List Token) → SpellsJoined level joint parts tokens → ReadsJoined level joint parts tokens
@@ -495,7 +495,8 @@ mutual
 
   pub select_reads : (span : Span) (tree : SelectTree) (tokens : List Token) → SpellsSelect span tree tokens → ReadsSelect span tree tokens
   select_reads span tree tokens (c.select distinct items entries filter select_at quantifier listed from_at groups condition e whole q i g w) =
-      select_case span tree tokens distinct items entries filter select_at quantifier listed from_at groups condition e whole q i
+      select_case span tree tokens distinct items entries filter select_at quantifier listed from_at groups condition e
+      (whole ∙ regroup (word SELECT select_at ∷ quantifier) listed (word FROM from_at ∷ groups) condition) q i
       (groups_reads 0 entries groups g) w (where_reads filter condition w)
 
   where_reads : (filter : Option CondTree) (tokens : List Token) → SpellsWhere filter tokens → ReadsWhere filter tokens
@@ -514,7 +515,7 @@ mutual
   joins_reads : (first : ℕ) (entries : List EntryTree) (tokens : List Token) → SpellsJoins first entries tokens → ReadsJoins first entries tokens
   joins_reads first entries tokens (c.no_join e whole) = no_join_case first entries tokens e whole
   joins_reads first entries tokens (c.inner_join table alias tree others inner_word join_at own on_at condition rest e whole w s t u) =
-      inner_case first entries tokens table alias tree others inner_word join_at own on_at condition rest e whole w s (cond_reads Disjunction tree condition t) u (joins_reads first others rest u)
+      inner_case first entries tokens table alias tree others inner_word join_at own on_at condition rest e (whole ∙ regroup inner_word (word JOIN join_at ∷ own) (word ON on_at ∷ condition) rest) w s (cond_reads Disjunction tree condition t) u (joins_reads first others rest u)
   joins_reads first entries tokens (c.cross_join table alias others cross_at join_at own rest e whole s t) =
       cross_case first entries tokens table alias others cross_at join_at own rest e whole s t (joins_reads first others rest t)
 

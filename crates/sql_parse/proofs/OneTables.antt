@@ -1,22 +1,21 @@
 -- The parts of a declaration of a table, but for its columns, are read in one way.
-use Rattle.std.proofs.Common.{ℕ, ℤ, pos, zero, suc, ◌+◌, ◌≤◌, ◌≡◌, refl, ap, sym, ◌∙◌, Bool, true, false, cond, eqb, ◌&&◌, List, [], ◌∷◌, ◌++◌, length, Option, Some, None, lit≤, arith, codes, ◌⊎◌, inl, inr}
+use Rattle.std.proofs.Common.{ℕ, pos, zero, suc, ◌+◌, ◌≤◌, ◌≡◌, refl, Bool, true, false, cond, eqb, List, [], ◌∷◌, ◌++◌, None, lit≤, arith, codes, inl, inr}
 use Rattle.std.proofs.lemmas.List.{append_assoc}
 use Rattle.lint_base.specs.declared.place.Span.{Span}
-use Rattle.sql_lex.specs.declared.token.Sign.TheVariants.{Open, Close}
+use Rattle.sql_lex.specs.declared.token.Sign.TheVariants.{Close}
 use Rattle.sql_lex.specs.declared.token.Kind.{Kind}
 use Rattle.sql_lex.specs.declared.token.Kind.TheVariants as kind
 use Rattle.sql_lex.specs.declared.token.Token.{Token}
 use Rattle.sql_tree.specs.declared.term.NameTree.{NameTree}
 use Rattle.sql_tree.specs.declared.schema.TypeTree.{TypeTree}
 use Rattle.sql_tree.specs.declared.schema.TypeTree.TheVariants.{Small, Integer, Big, Text}
-use Rattle.sql_parse.specs.grammar.Words.{word, called, sign, number, CONSTRAINT, ON, REFERENCES}
-use Rattle.sql_parse.specs.grammar.Names.{name_token, SpellsName, SpellsNames}
+use Rattle.sql_parse.specs.grammar.Words.{word, called, sign, CONSTRAINT, ON}
+use Rattle.sql_parse.specs.grammar.Names.{SpellsName, SpellsNames}
 use Rattle.sql_parse.specs.grammar.Tables as table
 use Rattle.sql_parse.specs.grammar.Tables.{SpellsType, SpellsDefault, SpellsConstraint, SpellsAction, SpellsActions, SpellsTarget, SpellsReference}
-use Rattle.sql_parse.proofs.OneTokens.{Found, found, and_then, at_head, is_name, is_open, is_word, kind_rank, place_rank, rank}
+use Rattle.sql_parse.proofs.OneTokens.{Found, found, and_then, at_head, is_name, is_open, is_word, kind_rank, rank}
 use Rattle.sql_parse.proofs.OneTerms.{read_name, name_from, name_read, read_value, value_read}
 use Rattle.sql_parse.proofs.OneLists.{Reads, read_list, list_reads}
-use Rattle.sql_parse.proofs.OnePredicates.{one_read}
 use Rattle.sql_parse.proofs.OneConditions.{skip}
 
 -- names in parentheses
@@ -54,14 +53,14 @@ read_length front (t ∷ u ∷ v ∷ rest) = length_from u.kind front t u v rest
 unfoldable pub character : Token → List Token → Found TypeTree
 character t rest =
     cond (at_head is_open rest) (read_length (t ∷ []) rest)
-      (cond (at_head (is_called (codes "VARYING")) rest) (skip (λ u left. read_length (t ∷ u ∷ []) left) rest) (found (Text (pos 1) t.span) (t ∷ []) rest))
+    (cond (at_head (is_called (codes "VARYING")) rest) (skip (λ u left. read_length (t ∷ u ∷ []) left) rest) (found (Text (pos 1) t.span) (t ∷ []) rest))
 
 unfoldable pub type_first : Token → List Token → Found TypeTree
 type_first t rest =
     cond (is_called (codes "SMALLINT") t.kind) (found Small (t ∷ []) rest)
-      (cond (is_called (codes "INTEGER") t.kind) (found Integer (t ∷ []) rest)
-        (cond (is_called (codes "INT") t.kind) (found Integer (t ∷ []) rest)
-          (cond (is_called (codes "BIGINT") t.kind) (found Big (t ∷ []) rest) (character t rest))))
+    (cond (is_called (codes "INTEGER") t.kind) (found Integer (t ∷ []) rest)
+    (cond (is_called (codes "INT") t.kind) (found Integer (t ∷ []) rest)
+    (cond (is_called (codes "BIGINT") t.kind) (found Big (t ∷ []) rest) (character t rest))))
 
 unfoldable pub read_type : List Token → Found TypeTree
 read_type tokens = skip type_first tokens
@@ -108,7 +107,7 @@ unfoldable pub read_action : List Token → Found Bool
 read_action [] = None
 read_action (t ∷ rest) =
     cond (is_called (codes "SET") t.kind) (skip (λ u left. found false (t ∷ u ∷ []) left) rest)
-      (cond (is_called (codes "NO") t.kind) (skip (λ u left. found false (t ∷ u ∷ []) left) rest) (found false (t ∷ []) rest))
+    (cond (is_called (codes "NO") t.kind) (skip (λ u left. found false (t ∷ u ∷ []) left) rest) (found false (t ∷ []) rest))
 
 action_read : (tokens : List Token) → SpellsAction tokens → (rest : List Token) → read_action (tokens ++ rest) ≡ found false tokens rest
 unfolding read_action is_called same_text skip
@@ -169,7 +168,7 @@ target_reads (name ∷ names) tokens s =
 unfoldable pub read_reference : ℕ → List Token → Found (NameTree × List NameTree)
 read_reference fuel tokens =
     skip (λ t rest. and_then (read_name rest) (λ name own left. and_then (read_target fuel left) (λ target listed later. and_then (read_actions fuel later) (λ a more after.
-      found (name, target) (t ∷ own ++ listed ++ more) after)))) tokens
+    found (name, target) (t ∷ own ++ listed ++ more) after)))) tokens
 
 actions_open : (tokens : List Token) → SpellsActions tokens → (rest : List Token) → at_head is_open rest ≡ false → at_head is_open (tokens ++ rest) ≡ false
 unfolding at_head is_open
@@ -179,12 +178,14 @@ actions_open tokens (table.more_actions event on_at event_at own more whole i s 
 unfoldable pub ReadsReference : NameTree → List NameTree → List Token → Type 0
 ReadsReference name target tokens =
     (least : ℕ) × ((fuel : ℕ) → least ≤ fuel → (rest : List Token) → at_head is_open rest ≡ false → at_head (is_word ON) rest ≡ false →
-      read_reference fuel (tokens ++ rest) ≡ found (name, target) tokens rest)
+    read_reference fuel (tokens ++ rest) ≡ found (name, target) tokens rest)
 
 pub reference_reads : (name : NameTree) (target : List NameTree) (at : Span) (tokens : List Token) → SpellsReference name target at tokens → ReadsReference name target tokens
 unfolding ReadsReference read_reference skip and_then read_name name_from
 reference_reads name target at tokens s =
     let listed = target_reads target s.listed s.names in
-    let actions = actions_reads s.rest s.actions in
-    (listed.0 + actions.0, λ fuel h rest f g.
-      rw (s.whole, append_assoc s.listed s.rest rest, listed.1 fuel (omega arith) (s.rest ++ rest) (actions_open s.rest s.actions rest f), actions.1 fuel (omega arith) rest g) refl)
+    let actions = actions_reads s.rest s.actions in (
+      listed.0 + actions.0,
+      λ fuel h rest f g.
+          rw (s.whole, append_assoc s.listed s.rest rest, listed.1 fuel (omega arith) (s.rest ++ rest) (actions_open s.rest s.actions rest f), actions.1 fuel (omega arith) rest g) refl,
+    )

@@ -1,6 +1,7 @@
 -- Reading tokens one way only: what a reader of a part answers, and which tokens can stand after a part.
-use Rattle.std.proofs.Common.{ℕ, suc, ◌≤◌, ◌≡◌, refl, ap, sym, ◌∙◌, Bool, true, false, cond, eqb, List, [], ◌∷◌, Option, Some, None, arith}
+use Rattle.std.proofs.Common.{ℕ, suc, ◌≤◌, ◌≡◌, refl, ap, sym, ◌∙◌, Bool, true, false, cond, eqb, List, [], ◌∷◌, ◌++◌, Option, Some, None, arith}
 use Rattle.std.proofs.lemmas.Bool.{eqb-true}
+use Rattle.std.proofs.lemmas.List.{append_assoc}
 use Rattle.sql_lex.specs.declared.token.Sign.TheVariants.{Open, Comma, Dot, Star, Plus, Minus}
 use Rattle.sql_lex.specs.declared.token.Kind.{Kind}
 use Rattle.sql_lex.specs.declared.token.Kind.TheVariants.{Name, Reserved, Sign}
@@ -23,6 +24,9 @@ pub then_found : {A B : Type 0} (f : Found A) (k : A → List Token → List Tok
     f ≡ Some (a, own, rest) → and_then f k ≡ k a own rest
 unfolding and_then
 then_found f k a own rest e = ap (λ (g : Found _). and_then g k) e
+
+pub regroup : (a b c d : List Token) → a ++ (b ++ (c ++ d)) ≡ a ++ b ++ c ++ d
+regroup a b c d = sym (append_assoc (a ++ b) c d ∙ append_assoc a b (c ++ d))
 
 -- the first token is of this kind
 unfoldable pub at_head : (Kind → Bool) → List Token → Bool

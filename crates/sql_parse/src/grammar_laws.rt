@@ -1,7 +1,11 @@
 //! Laws of the grammar of SQL. The functions do nothing: each contract is a law.
 ghost use Rattle.std.specs.Prelude.{◌≡◌, List, [], ◌∷◌, map, codes};
+ghost use Rattle.sql_lex.specs.declared.token.Token.{Token};
+ghost use Rattle.sql_tree.specs.declared.term.TermTree.{TermTree};
+ghost use Rattle.sql_tree.specs.declared.select.CondTree.{CondTree};
 ghost use Rattle.lint_tables.specs.Words.{place_of, reserved};
 ghost use Rattle.sql_parse.specs.grammar.Words.{ALL, AND, AS, BETWEEN, BY, CHECK, CONSTRAINT, CREATE, CROSS, DISTINCT, EXISTS, FOREIGN, FROM, IN, INNER, IS, JOIN, NOT, NULL, ON, OR, ORDER, PRIMARY, REFERENCES, SELECT, TABLE, UNIQUE, WHERE};
+ghost use Rattle.sql_parse.specs.grammar.Terms.{SpellsTerm};
 ghost use Rattle.sql_parse.specs.grammar.Selects.{SpellsCond, Disjunction};
 ghost use Rattle.sql_parse.specs.grammar.Queries.{SpellsQuery};
 ghost use Rattle.sql_parse.specs.grammar.Tables.{SpellsCreate};
@@ -15,8 +19,13 @@ pub fn grammar_words_are_reserved()
     ensures o_to_w { map (place_of reserved) (codes "ON" ∷ codes "OR" ∷ codes "ORDER" ∷ codes "PRIMARY" ∷ codes "REFERENCES" ∷ codes "SELECT" ∷ codes "TABLE" ∷ codes "UNIQUE" ∷ codes "WHERE" ∷ []) ≡ map Some (ON ∷ OR ∷ ORDER ∷ PRIMARY ∷ REFERENCES ∷ SELECT ∷ TABLE ∷ UNIQUE ∷ WHERE ∷ []) }
 {}
 
-/// What some texts spell: AND binds before OR and NOT before both; parentheses leave nothing; the rest is
-/// said above each example.
+/// No two terms have the same tokens.
+pub fn one_term()
+    ensures { (a b : TermTree) (tokens : List Token) → SpellsTerm a tokens → SpellsTerm b tokens → a ≡ b }
+{}
+
+/// What some texts spell: AND binds before OR and NOT before both; parentheses leave nothing; NOT does not
+/// stand before NOT; the rest is said above each example.
 pub fn grammar_examples()
     ensures or { SpellsCond Disjunction example.or_tree example.or_tokens }
     ensures equation { SpellsCond Disjunction example.equation_tree example.equation_tokens }
@@ -25,6 +34,7 @@ pub fn grammar_examples()
     ensures sum { SpellsCond Disjunction example.sum_tree example.sum_tokens }
     ensures exists { SpellsCond Disjunction example.exists_tree example.exists_tokens }
     ensures scalar { SpellsCond Disjunction example.scalar_tree example.scalar_tokens }
+    ensures not_not { (tree : CondTree) → SpellsCond Disjunction tree example.not_not_tokens → ⊥ }
     ensures query { SpellsQuery example.query_tree example.query_tokens }
     ensures table { SpellsCreate example.table_tree example.table_tokens }
     ensures schema { SpellsSchema example.schema_trees example.schema_tokens }

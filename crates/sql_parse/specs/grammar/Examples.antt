@@ -1,5 +1,5 @@
 -- Worked examples: tokens and the tree that they spell.
-use Rattle.std.specs.Prelude.{ℕ, ℤ, pos, true, false, List, [], ◌∷◌, Some, None, codes}
+use Rattle.std.specs.Prelude.{ℕ, pos, true, false, List, [], ◌∷◌, Some, None, codes}
 use Rattle.lint_base.specs.declared.place.Span.{Span}
 use Rattle.lint_tables.specs.declared.op.Op.TheVariants.{Eq, Lt, Gt, Ge}
 use Rattle.sql_lex.specs.declared.token.Sign.TheVariants.{Open, Close, Comma, Dot, Semicolon, Plus, Star as Asterisk, Compare as Operator}
@@ -43,11 +43,11 @@ or_tokens =
 abbrev pub or_tree : CondTree
 or_tree =
     Or
-    ( Compare Eq (column (codes "A") 0 1) (integer 1 4 5) (at 0 5)
+    (Compare Eq (column (codes "A") 0 1) (integer 1 4 5) (at 0 5)
     ∷ And
-      ( Compare Eq (column (codes "B") 9 10) (integer 2 13 14) (at 9 14)
-      ∷ Not (IsNull (column (codes "C") 23 24) false (at 23 32))
-      ∷ [])
+    (Compare Eq (column (codes "B") 9 10) (integer 2 13 14) (at 9 14)
+    ∷ Not (IsNull (column (codes "C") 23 24) false (at 23 32))
+    ∷ [])
     ∷ [])
 
 -- (a = 1), with and without its parentheses
@@ -131,7 +131,7 @@ query_tree = record {
       select_tree
       (Some (at 7 15))
       (Term (column (codes "A") 16 17) (Some (name (codes "X") 21 22)) ∷ [])
-      ( entry_tree (name (codes "T") 28 29) (Some (name (codes "U") 30 31)) None 0
+      (entry_tree (name (codes "T") 28 29) (Some (name (codes "U") 30 31)) None 0
       ∷ entry_tree (name (codes "V") 37 38) None (Some join_tree) 0
       ∷ entry_tree (name (codes "W") 53 54) None None 2
       ∷ [])
@@ -190,3 +190,8 @@ schema_trees =
           ∷ [];
     }
     ∷ []
+
+-- NOT NOT a = 1, which no condition spells
+abbrev pub not_not_tokens : List Token
+not_not_tokens =
+    word NOT (at 0 3) ∷ word NOT (at 4 7) ∷ called (codes "A") (at 8 9) ∷ sign (Operator Eq) (at 10 11) ∷ number (pos 1) (at 12 13) ∷ []

@@ -39,7 +39,7 @@ pub record SpellsIsNull (tree : CondTree) (tokens : List Token) : Type 0 where
   pub is_at : Span
   pub not_word : List Token
   pub null_at : Span
-  pub whole : tokens ≡ own ++ word IS is_at ∷ not_word ++ word NULL null_at ∷ []
+  pub whole : tokens ≡ own ++ (word IS is_at ∷ not_word ++ word NULL null_at ∷ [])
   pub own_term : SpellsTerm term own
   pub negation : SpellsNot negated not_word
 
@@ -56,7 +56,7 @@ pub record SpellsBetween (tree : CondTree) (tokens : List Token) : Type 0 where
   pub lower : List Token
   pub and_at : Span
   pub upper : List Token
-  pub whole : tokens ≡ own ++ not_word ++ word BETWEEN between_at ∷ lower ++ word AND and_at ∷ upper
+  pub whole : tokens ≡ own ++ (not_word ++ (word BETWEEN between_at ∷ lower ++ word AND and_at ∷ upper))
   pub own_term : SpellsTerm term own
   pub negation : SpellsNot negated not_word
   pub low_term : SpellsTerm low lower
@@ -74,7 +74,7 @@ pub record SpellsInList (tree : CondTree) (tokens : List Token) : Type 0 where
   pub open_at : Span
   pub listed : List Token
   pub close_at : Span
-  pub whole : tokens ≡ own ++ not_word ++ word IN in_at ∷ sign Open open_at ∷ listed ++ sign Close close_at ∷ []
+  pub whole : tokens ≡ own ++ (not_word ++ (word IN in_at ∷ sign Open open_at ∷ listed ++ sign Close close_at ∷ []))
   pub own_term : SpellsTerm term own
   pub negation : SpellsNot negated not_word
   pub values_listed : SpellsList SpellsValue values listed

@@ -49,37 +49,31 @@ mutual
         tree ≡ alone_or Or parts →
         SpellsJoined Conjunction OR parts tokens →
         SpellsCond Disjunction tree tokens
-
     -- factor { AND factor }
     conjunction : {tree : CondTree} {tokens : List Token} (parts : List CondTree) →
         tree ≡ alone_or And parts →
         SpellsJoined Factor AND parts tokens →
         SpellsCond Conjunction tree tokens
-
     plain : {tree : CondTree} {tokens : List Token} →
         SpellsCond Primary tree tokens →
         SpellsCond Factor tree tokens
-
     -- NOT
     negation : {tree : CondTree} {tokens : List Token} (inner : CondTree) (not_at : Span) (own : List Token) →
         tree ≡ Not inner →
         tokens ≡ word NOT not_at ∷ own →
         SpellsCond Primary inner own →
         SpellsCond Factor tree tokens
-
     -- "(" cond ")"
     parenthesized : {tree : CondTree} {tokens : List Token} (open_at : Span) (own : List Token) (close_at : Span) →
         tokens ≡ sign Open open_at ∷ own ++ sign Close close_at ∷ [] →
         SpellsCond Disjunction tree own →
         SpellsCond Primary tree tokens
-
     -- EXISTS "(" select ")"
     exists : {tree : CondTree} {tokens : List Token} (select : SelectTree) (exists_at : Span) (inner : List Token) →
         tree ≡ Exists select (span_of tokens) →
         tokens ≡ word EXISTS exists_at ∷ inner →
         SpellsSubquery select inner →
         SpellsCond Primary tree tokens
-
     -- term op "(" scalar ")", where scalar is a select without DISTINCT
     scalar : {tree : CondTree} {tokens : List Token} (op : Op) (left : TermTree) (select : SelectTree) (own : List Token) (op_at : Span) (inner : List Token) →
         tree ≡ Scalar op left select (span_of tokens) →
@@ -88,16 +82,14 @@ mutual
         SpellsSubquery select inner →
         (out-SelectTree select).distinct ≡ None →
         SpellsCond Primary tree tokens
-
     -- term [ NOT ] IN "(" select ")"
     in_select : {tree : CondTree} {tokens : List Token} (term : TermTree) (select : SelectTree) (negated : Bool) (own not_word : List Token) (in_at : Span) (inner : List Token) →
         tree ≡ InSelect term select negated (span_of tokens) →
-        tokens ≡ own ++ not_word ++ word IN in_at ∷ inner →
+        tokens ≡ own ++ (not_word ++ word IN in_at ∷ inner) →
         SpellsTerm term own →
         SpellsNot negated not_word →
         SpellsSubquery select inner →
         SpellsCond Primary tree tokens
-
     predicate : {tree : CondTree} {tokens : List Token} →
         SpellsPredicate tree tokens →
         SpellsCond Primary tree tokens
@@ -108,7 +100,6 @@ mutual
         parts ≡ part ∷ [] →
         SpellsCond level part tokens →
         SpellsJoined level joint parts tokens
-
     more : {level : Level} {joint : ℕ} {parts : List CondTree} {tokens : List Token} (part : CondTree) (others : List CondTree) (own : List Token) (joint_at : Span) (rest : List Token) →
         parts ≡ part ∷ others →
         tokens ≡ own ++ word joint joint_at ∷ rest →
@@ -128,7 +119,7 @@ mutual
     select : {span : Span} {tree : SelectTree} {tokens : List Token} (distinct : Option Span) (items : List ItemTree) (entries : List EntryTree) (filter : Option CondTree) →
         (select_at : Span) (quantifier listed : List Token) (from_at : Span) (groups condition : List Token) →
         tree ≡ select_tree distinct items entries filter span →
-        tokens ≡ word SELECT select_at ∷ quantifier ++ listed ++ word FROM from_at ∷ groups ++ condition →
+        tokens ≡ word SELECT select_at ∷ quantifier ++ (listed ++ (word FROM from_at ∷ groups ++ condition)) →
         SpellsQuantifier distinct quantifier →
         SpellsItems items listed →
         SpellsGroups 0 entries groups →
@@ -141,7 +132,6 @@ mutual
         filter ≡ None →
         tokens ≡ [] →
         SpellsWhere filter tokens
-
     filtered : {filter : Option CondTree} {tokens : List Token} (tree : CondTree) (where_at : Span) (own : List Token) →
         filter ≡ Some tree →
         tokens ≡ word WHERE where_at ∷ own →
@@ -153,7 +143,6 @@ mutual
     last_group : {first : ℕ} {entries : List EntryTree} {tokens : List Token} →
         SpellsGroup first entries tokens →
         SpellsGroups first entries tokens
-
     more_groups : {first : ℕ} {entries : List EntryTree} {tokens : List Token} (group others : List EntryTree) (own : List Token) (comma_at : Span) (rest : List Token) →
         entries ≡ group ++ others →
         tokens ≡ own ++ sign Comma comma_at ∷ rest →
@@ -176,17 +165,15 @@ mutual
         entries ≡ [] →
         tokens ≡ [] →
         SpellsJoins first entries tokens
-
     inner_join : {first : ℕ} {entries : List EntryTree} {tokens : List Token} (table : NameTree) (alias : Option NameTree) (tree : CondTree) (others : List EntryTree) →
         (inner_word : List Token) (join_at : Span) (own : List Token) (on_at : Span) (condition rest : List Token) →
         entries ≡ entry_tree table alias (Some tree) first ∷ others →
-        tokens ≡ inner_word ++ word JOIN join_at ∷ own ++ word ON on_at ∷ condition ++ rest →
+        tokens ≡ inner_word ++ (word JOIN join_at ∷ own ++ (word ON on_at ∷ condition ++ rest)) →
         MayBe INNER inner_word →
         SpellsEntry table alias own →
         SpellsCond Disjunction tree condition →
         SpellsJoins first others rest →
         SpellsJoins first entries tokens
-
     cross_join : {first : ℕ} {entries : List EntryTree} {tokens : List Token} (table : NameTree) (alias : Option NameTree) (others : List EntryTree) (cross_at join_at : Span) (own rest : List Token) →
         entries ≡ entry_tree table alias None first ∷ others →
         tokens ≡ word CROSS cross_at ∷ word JOIN join_at ∷ own ++ rest →

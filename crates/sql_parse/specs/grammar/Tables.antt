@@ -148,18 +148,18 @@ pub data SpellsColumnRule (column : NameTree) (rules : List RuleTree) (tokens : 
 
 -- UNIQUE names | PRIMARY KEY names | CHECK "(" flat ")" | FOREIGN KEY names REFERENCES name [ names ] actions
 pub data SpellsTableRule (rule : RuleTree) (tokens : List Token) : Type 0 where
-  unique : (columns : List NameTree) (at : Span) (listed : List Token) →
+  unique_names : (columns : List NameTree) (at : Span) (listed : List Token) →
       rule ≡ Unique columns →
       tokens ≡ word UNIQUE at ∷ listed →
       SpellsNames columns listed →
       SpellsTableRule rule tokens
-  primary : (columns : List NameTree) (at key_at : Span) (listed : List Token) →
+  primary_names : (columns : List NameTree) (at key_at : Span) (listed : List Token) →
       rule ≡ Primary columns at →
       tokens ≡ word PRIMARY at ∷ called (codes "KEY") key_at ∷ listed →
       SpellsNames columns listed →
       SpellsTableRule rule tokens
-  check : (tree : CondTree) → rule ≡ Check tree → SpellsCheck tree tokens → SpellsTableRule rule tokens
-  foreign : (columns : List NameTree) (table : NameTree) (target : List NameTree) (at key_at references_at : Span) (listed rest : List Token) →
+  table_check : (tree : CondTree) → rule ≡ Check tree → SpellsCheck tree tokens → SpellsTableRule rule tokens
+  foreign_names : (columns : List NameTree) (table : NameTree) (target : List NameTree) (at key_at references_at : Span) (listed rest : List Token) →
       rule ≡ Foreign columns table target (record { from = at.from; to = last_end table target }) →
       tokens ≡ word FOREIGN at ∷ called (codes "KEY") key_at ∷ listed ++ rest →
       SpellsNames columns listed →
@@ -171,7 +171,7 @@ pub data SpellsColumnRules : NameTree → List RuleTree → List Token → Type 
   no_rules : {column : NameTree} {rules : List RuleTree} {tokens : List Token} → rules ≡ [] → tokens ≡ [] → SpellsColumnRules column rules tokens
   more_rules : {column : NameTree} {rules : List RuleTree} {tokens : List Token} (left others : List RuleTree) (constraint own rest : List Token) →
       rules ≡ left ++ others →
-      tokens ≡ constraint ++ own ++ rest →
+      tokens ≡ constraint ++ (own ++ rest) →
       SpellsConstraint constraint →
       SpellsColumnRule column left own →
       SpellsColumnRules column others rest →
@@ -181,7 +181,7 @@ pub data SpellsColumnRules : NameTree → List RuleTree → List Token → Type 
 abbrev pub SpellsElement : Element → List Token → Type 0
 SpellsElement (Column name kind rules) tokens =
     (quoted : Bool) × (type_tokens : List Token) × (default_tokens : List Token) × (rest : List Token)
-    × (tokens ≡ name_token name quoted ∷ type_tokens ++ default_tokens ++ rest)
+    × (tokens ≡ name_token name quoted ∷ type_tokens ++ (default_tokens ++ rest))
     × SpellsType kind type_tokens × SpellsDefault default_tokens × SpellsColumnRules name rules rest
 SpellsElement (Rule rule) tokens = (constraint : List Token) × (own : List Token) × (tokens ≡ constraint ++ own) × SpellsConstraint constraint × SpellsTableRule rule own
 

@@ -1,4 +1,5 @@
 use Rattle.sql_parse.proofs.GrammarExamples as e
+use Rattle.sql_parse.proofs.GrammarRefused.{not_not_refused}
 use Rattle.sql_parse.proofs.grammar_laws.grammar_examples.Goals as goal
 
 pub returns : goal.returns
@@ -10,6 +11,7 @@ returns c = record {
   sum = e.sum_spelled;
   exists = e.exists_spelled;
   scalar = e.scalar_spelled;
+  not_not = not_not_refused;
   query = e.query_spelled;
   table = e.table_spelled;
   schema = e.schema_spelled;
