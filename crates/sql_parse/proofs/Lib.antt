@@ -16,6 +16,16 @@ pub mod QueryForm
 pub mod QueryWhole
 pub mod QueryLaws
 pub mod GrammarExamples
+pub mod OneTokens
+pub mod OneTerms
+pub mod OneLists
+pub mod OnePredicates
+pub mod OneItems
+pub mod OneConditions
+pub mod OneSelects
+pub mod OneQueries
+pub mod OneTables
+pub mod OneSchemas
 pub mod GrammarBegins
 pub mod GrammarRefused
 pub mod GrammarTerms

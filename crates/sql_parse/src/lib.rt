@@ -8,13 +8,15 @@
 //!
 //! `specs/grammar` has the grammar of the whole language, as a relation between trees and tokens, which no
 //! reader uses yet. Of it a reader must believe every file but `Examples`, whose trees and tokens
-//! `grammar_examples` joins.
+//! `grammar_examples` joins. `one_query` and `one_schema`, with `one_term`, `one_predicate` and
+//! `one_condition` below them, prove that no two trees have the same tokens.
 #![tactic(auto)]
 
 mod blank;
 mod grammar_laws;
 mod laws;
 mod lex;
+mod one_tree;
 mod parts;
 mod query;
 mod refused;
@@ -23,6 +25,7 @@ mod token;
 
 pub use grammar_laws::{grammar_examples, grammar_words_are_reserved, one_term};
 pub use laws::one_reading;
+pub use one_tree::{one_condition, one_predicate, one_query, one_schema};
 pub use query::read_first_query;
 pub use schema::read_first_schema;
 
