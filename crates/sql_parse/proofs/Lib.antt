@@ -28,4 +28,3 @@ pub mod OneTables
 pub mod OneSchemas
 pub mod GrammarBegins
 pub mod GrammarRefused
-pub mod GrammarTerms

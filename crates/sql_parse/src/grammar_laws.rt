@@ -1,11 +1,8 @@
 //! Laws of the grammar of SQL. The functions do nothing: each contract is a law.
 ghost use Rattle.std.specs.Prelude.{◌≡◌, List, [], ◌∷◌, map, codes};
-ghost use Rattle.sql_lex.specs.declared.token.Token.{Token};
-ghost use Rattle.sql_tree.specs.declared.term.TermTree.{TermTree};
 ghost use Rattle.sql_tree.specs.declared.select.CondTree.{CondTree};
 ghost use Rattle.lint_tables.specs.Words.{place_of, reserved};
 ghost use Rattle.sql_parse.specs.grammar.Words.{ALL, AND, AS, BETWEEN, BY, CHECK, CONSTRAINT, CREATE, CROSS, DISTINCT, EXISTS, FOREIGN, FROM, IN, INNER, IS, JOIN, NOT, NULL, ON, OR, ORDER, PRIMARY, REFERENCES, SELECT, TABLE, UNIQUE, WHERE};
-ghost use Rattle.sql_parse.specs.grammar.Terms.{SpellsTerm};
 ghost use Rattle.sql_parse.specs.grammar.Selects.{SpellsCond, Disjunction};
 ghost use Rattle.sql_parse.specs.grammar.Queries.{SpellsQuery};
 ghost use Rattle.sql_parse.specs.grammar.Tables.{SpellsCreate};
@@ -17,11 +14,6 @@ pub fn grammar_words_are_reserved()
     ensures a_to_c { map (place_of reserved) (codes "ALL" ∷ codes "AND" ∷ codes "AS" ∷ codes "BETWEEN" ∷ codes "BY" ∷ codes "CHECK" ∷ codes "CONSTRAINT" ∷ codes "CREATE" ∷ codes "CROSS" ∷ []) ≡ map Some (ALL ∷ AND ∷ AS ∷ BETWEEN ∷ BY ∷ CHECK ∷ CONSTRAINT ∷ CREATE ∷ CROSS ∷ []) }
     ensures d_to_n { map (place_of reserved) (codes "DISTINCT" ∷ codes "EXISTS" ∷ codes "FOREIGN" ∷ codes "FROM" ∷ codes "IN" ∷ codes "INNER" ∷ codes "IS" ∷ codes "JOIN" ∷ codes "NOT" ∷ codes "NULL" ∷ []) ≡ map Some (DISTINCT ∷ EXISTS ∷ FOREIGN ∷ FROM ∷ IN ∷ INNER ∷ IS ∷ JOIN ∷ NOT ∷ NULL ∷ []) }
     ensures o_to_w { map (place_of reserved) (codes "ON" ∷ codes "OR" ∷ codes "ORDER" ∷ codes "PRIMARY" ∷ codes "REFERENCES" ∷ codes "SELECT" ∷ codes "TABLE" ∷ codes "UNIQUE" ∷ codes "WHERE" ∷ []) ≡ map Some (ON ∷ OR ∷ ORDER ∷ PRIMARY ∷ REFERENCES ∷ SELECT ∷ TABLE ∷ UNIQUE ∷ WHERE ∷ []) }
-{}
-
-/// No two terms have the same tokens.
-pub fn one_term()
-    ensures { (a b : TermTree) (tokens : List Token) → SpellsTerm a tokens → SpellsTerm b tokens → a ≡ b }
 {}
 
 /// What some texts spell: AND binds before OR and NOT before both; parentheses leave nothing; NOT does not

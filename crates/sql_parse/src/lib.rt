@@ -23,9 +23,9 @@ mod refused;
 mod schema;
 mod token;
 
-pub use grammar_laws::{grammar_examples, grammar_words_are_reserved, one_term};
+pub use grammar_laws::{grammar_examples, grammar_words_are_reserved};
 pub use laws::one_reading;
-pub use one_tree::{one_condition, one_predicate, one_query, one_schema};
+pub use one_tree::{one_condition, one_predicate, one_query, one_schema, one_term};
 pub use query::read_first_query;
 pub use schema::read_first_schema;
 

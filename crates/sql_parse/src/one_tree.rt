@@ -2,15 +2,22 @@
 ghost use Rattle.std.specs.Prelude.{◌≡◌, List};
 ghost use Rattle.lint_base.specs.declared.place.Span.{Span};
 ghost use Rattle.sql_lex.specs.declared.token.Token.{Token};
+ghost use Rattle.sql_tree.specs.declared.term.TermTree.{TermTree};
+ghost use Rattle.sql_tree.specs.declared.schema.CreateTable.{CreateTable};
 ghost use Rattle.sql_tree.specs.declared.select.CondTree.{CondTree};
 ghost use Rattle.sql_tree.specs.declared.select.SelectTree.{SelectTree};
 ghost use Rattle.sql_tree.specs.declared.select.QueryTree.{QueryTree};
+ghost use Rattle.sql_parse.specs.grammar.Terms.{SpellsTerm};
 ghost use Rattle.sql_parse.specs.grammar.Predicates.{SpellsPredicate};
 ghost use Rattle.sql_parse.specs.grammar.Selects.{Disjunction, SpellsCond, SpellsSelect};
-ghost use Rattle.sql_tree.specs.declared.schema.CreateTable.{CreateTable};
 ghost use Rattle.sql_parse.specs.grammar.Queries.{SpellsQuery};
 ghost use Rattle.sql_parse.specs.grammar.Tables.{SpellsCreate};
 ghost use Rattle.sql_parse.specs.grammar.Schemas.{SpellsSchema};
+
+/// A list of tokens is spelled by at most one term.
+pub fn one_term()
+    ensures { (tokens : List Token) → (left right : TermTree) → SpellsTerm left tokens → SpellsTerm right tokens → left ≡ right }
+{}
 
 /// A list of tokens is spelled by at most one predicate without a subquery.
 pub fn one_predicate()
