@@ -1,4 +1,5 @@
 pub mod grammar
+pub mod reading
 pub mod Blank
 pub mod Tokens
 pub mod Reserved

@@ -18,7 +18,7 @@ pub data SpellsDirection (tokens : List Token) : Type 0 where
 
 -- key := ( column | number ) [ ASC | DESC ]
 abbrev pub SpellsKey : OrderTree → List Token → Type 0
-SpellsKey (Place value at) tokens = (rest : List Token) × (tokens ≡ number value at ∷ rest) × SpellsDirection rest
+SpellsKey (Place value at) tokens = (n : ℕ) × (rest : List Token) × (value ≡ pos n) × (tokens ≡ number n at ∷ rest) × SpellsDirection rest
 SpellsKey (Column term) tokens = (own : List Token) × (rest : List Token) × (tokens ≡ own ++ rest) × SpellsBareColumn term own × SpellsDirection rest
 
 -- [ ORDER BY key { "," key } ]

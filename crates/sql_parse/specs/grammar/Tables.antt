@@ -51,17 +51,17 @@ pub data SpellsType (kind : TypeTree) (tokens : List Token) : Type 0 where
   integer : (at : Span) → kind ≡ Integer → tokens ≡ called (codes "INTEGER") at ∷ [] → SpellsType kind tokens
   int : (at : Span) → kind ≡ Integer → tokens ≡ called (codes "INT") at ∷ [] → SpellsType kind tokens
   bigint : (at : Span) → kind ≡ Big → tokens ≡ called (codes "BIGINT") at ∷ [] → SpellsType kind tokens
-  varchar : (value : ℤ) (place at open_at close_at : Span) →
-      kind ≡ Text value place →
+  varchar : (value : ℕ) (place at open_at close_at : Span) →
+      kind ≡ Text (pos value) place →
       tokens ≡ called (codes "VARCHAR") at ∷ sign Open open_at ∷ number value place ∷ sign Close close_at ∷ [] →
       SpellsType kind tokens
-  varying : (value : ℤ) (place : Span) (char : List ℕ) (at varying_at open_at close_at : Span) →
-      kind ≡ Text value place →
+  varying : (value : ℕ) (place : Span) (char : List ℕ) (at varying_at open_at close_at : Span) →
+      kind ≡ Text (pos value) place →
       tokens ≡ called char at ∷ called (codes "VARYING") varying_at ∷ sign Open open_at ∷ number value place ∷ sign Close close_at ∷ [] →
       IsChar char →
       SpellsType kind tokens
-  fixed : (value : ℤ) (place : Span) (char : List ℕ) (at open_at close_at : Span) →
-      kind ≡ Text value place →
+  fixed : (value : ℕ) (place : Span) (char : List ℕ) (at open_at close_at : Span) →
+      kind ≡ Text (pos value) place →
       tokens ≡ called char at ∷ sign Open open_at ∷ number value place ∷ sign Close close_at ∷ [] →
       IsChar char →
       SpellsType kind tokens

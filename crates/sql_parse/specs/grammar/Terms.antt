@@ -11,12 +11,12 @@ use Rattle.sql_parse.specs.grammar.Names.{name_token, SpellsName}
 
 -- ( "+" | "-" ) number
 pub data SpellsSigned (value : ℤ) (tokens : List Token) : Type 0 where
-  plus : (at place : Span) (n : ℤ) → value ≡ n → tokens ≡ sign Plus at ∷ number n place ∷ [] → SpellsSigned value tokens
-  minus : (at place : Span) (n : ℤ) → value ≡ neg_ℤ n → tokens ≡ sign Minus at ∷ number n place ∷ [] → SpellsSigned value tokens
+  plus : (at place : Span) (n : ℕ) → value ≡ pos n → tokens ≡ sign Plus at ∷ number n place ∷ [] → SpellsSigned value tokens
+  minus : (at place : Span) (n : ℕ) → value ≡ neg_ℤ (pos n) → tokens ≡ sign Minus at ∷ number n place ∷ [] → SpellsSigned value tokens
 
 -- literal := [ "+" | "-" ] number | text
 pub data SpellsLiteral (term : TermTree) (tokens : List Token) : Type 0 where
-  unsigned : (value : ℤ) (at : Span) → term ≡ Number value at → tokens ≡ number value at ∷ [] → SpellsLiteral term tokens
+  unsigned : (value : ℕ) (at : Span) → term ≡ Number (pos value) at → tokens ≡ number value at ∷ [] → SpellsLiteral term tokens
   signed : (value : ℤ) → term ≡ Number value (span_of tokens) → SpellsSigned value tokens → SpellsLiteral term tokens
   quoted : (characters : List ℕ) (at : Span) → term ≡ Text characters at → tokens ≡ text characters at ∷ [] → SpellsLiteral term tokens
 

@@ -1,5 +1,5 @@
 -- Tokens by what they are and where they stand, and the place of a run of tokens.
-use Rattle.std.specs.Prelude.{ℕ, ℤ, ◌≡◌, ◌⊎◌, List, [], ◌∷◌, false}
+use Rattle.std.specs.Prelude.{ℕ, pos, ◌≡◌, ◌⊎◌, List, [], ◌∷◌, false}
 use Rattle.lint_base.specs.declared.place.Span.{Span}
 use Rattle.sql_lex.specs.declared.token.Sign.{Sign}
 use Rattle.sql_lex.specs.declared.token.Kind.TheVariants as kind
@@ -16,8 +16,9 @@ called text at = record { kind = kind.Name text false; span = at }
 abbrev pub sign : Sign → Span → Token
 sign s at = record { kind = kind.Sign s; span = at }
 
-abbrev pub number : ℤ → Span → Token
-number value at = record { kind = kind.Number value; span = at }
+-- a number has no sign
+abbrev pub number : ℕ → Span → Token
+number value at = record { kind = kind.Number (pos value); span = at }
 
 abbrev pub text : List ℕ → Span → Token
 text characters at = record { kind = kind.Text characters; span = at }
