@@ -1,12 +1,3 @@
 pub mod grammar
 pub mod reading
-pub mod Blank
-pub mod Tokens
-pub mod Reserved
-pub mod FirstSchema
-pub mod FirstQuery
-pub mod Refused
-pub mod Lexing
-pub mod Seen
-pub mod Parsing
-pub mod QueryReading
+pub mod Refusals

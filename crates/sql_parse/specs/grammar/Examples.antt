@@ -36,8 +36,8 @@ integer value from to = Number (pos value) (at from to)
 -- a = 1 OR b = 2 AND NOT c IS NULL
 abbrev pub or_tokens : List Token
 or_tokens =
-    called (codes "A") (at 0 1) ∷ sign (Operator Eq) (at 2 3) ∷ number (pos 1) (at 4 5) ∷ word OR (at 6 8)
-    ∷ called (codes "B") (at 9 10) ∷ sign (Operator Eq) (at 11 12) ∷ number (pos 2) (at 13 14) ∷ word AND (at 15 18)
+    called (codes "A") (at 0 1) ∷ sign (Operator Eq) (at 2 3) ∷ number 1 (at 4 5) ∷ word OR (at 6 8)
+    ∷ called (codes "B") (at 9 10) ∷ sign (Operator Eq) (at 11 12) ∷ number 2 (at 13 14) ∷ word AND (at 15 18)
     ∷ word NOT (at 19 22) ∷ called (codes "C") (at 23 24) ∷ word IS (at 25 27) ∷ word NULL (at 28 32) ∷ []
 
 abbrev pub or_tree : CondTree
@@ -52,11 +52,11 @@ or_tree =
 
 -- (a = 1), with and without its parentheses
 abbrev pub equation_tokens : List Token
-equation_tokens = called (codes "A") (at 1 2) ∷ sign (Operator Eq) (at 3 4) ∷ number (pos 1) (at 5 6) ∷ []
+equation_tokens = called (codes "A") (at 1 2) ∷ sign (Operator Eq) (at 3 4) ∷ number 1 (at 5 6) ∷ []
 
 abbrev pub parenthesized_tokens : List Token
 parenthesized_tokens =
-    sign Open (at 0 1) ∷ called (codes "A") (at 1 2) ∷ sign (Operator Eq) (at 3 4) ∷ number (pos 1) (at 5 6)
+    sign Open (at 0 1) ∷ called (codes "A") (at 1 2) ∷ sign (Operator Eq) (at 3 4) ∷ number 1 (at 5 6)
     ∷ sign Close (at 6 7) ∷ []
 
 abbrev pub equation_tree : CondTree
@@ -65,7 +65,7 @@ equation_tree = Compare Eq (column (codes "A") 1 2) (integer 1 5 6) (at 1 6)
 -- a NOT IN (1, NULL)
 abbrev pub not_in_tokens : List Token
 not_in_tokens =
-    called (codes "A") (at 0 1) ∷ word NOT (at 2 5) ∷ word IN (at 6 8) ∷ sign Open (at 9 10) ∷ number (pos 1) (at 10 11)
+    called (codes "A") (at 0 1) ∷ word NOT (at 2 5) ∷ word IN (at 6 8) ∷ sign Open (at 9 10) ∷ number 1 (at 10 11)
     ∷ sign Comma (at 11 12) ∷ word NULL (at 13 17) ∷ sign Close (at 17 18) ∷ []
 
 abbrev pub not_in_tree : CondTree
@@ -75,7 +75,7 @@ not_in_tree = InList (column (codes "A") 0 1) (integer 1 10 11 ∷ Null (at 13 1
 abbrev pub sum_tokens : List Token
 sum_tokens =
     called (codes "X") (at 0 1) ∷ sign Dot (at 1 2) ∷ called (codes "A") (at 2 3) ∷ sign Plus (at 4 5)
-    ∷ number (pos 3) (at 6 7) ∷ sign (Operator Lt) (at 8 9) ∷ called (codes "B") (at 10 11) ∷ []
+    ∷ number 3 (at 6 7) ∷ sign (Operator Lt) (at 8 9) ∷ called (codes "B") (at 10 11) ∷ []
 
 abbrev pub sum_tree : CondTree
 sum_tree =
@@ -112,8 +112,8 @@ query_tokens =
     ∷ word JOIN (at 32 36) ∷ called (codes "V") (at 37 38) ∷ word ON (at 39 41) ∷ called (codes "U") (at 42 43)
     ∷ sign Dot (at 43 44) ∷ called (codes "A") (at 44 45) ∷ sign (Operator Eq) (at 46 47) ∷ called (codes "V") (at 48 49)
     ∷ sign Dot (at 49 50) ∷ called (codes "B") (at 50 51) ∷ sign Comma (at 51 52) ∷ called (codes "W") (at 53 54)
-    ∷ word WHERE (at 55 60) ∷ called (codes "A") (at 61 62) ∷ sign (Operator Gt) (at 63 64) ∷ number (pos 1) (at 65 66)
-    ∷ word ORDER (at 67 72) ∷ word BY (at 73 75) ∷ number (pos 1) (at 76 77) ∷ called (codes "DESC") (at 78 82) ∷ []
+    ∷ word WHERE (at 55 60) ∷ called (codes "A") (at 61 62) ∷ sign (Operator Gt) (at 63 64) ∷ number 1 (at 65 66)
+    ∷ word ORDER (at 67 72) ∷ word BY (at 73 75) ∷ number 1 (at 76 77) ∷ called (codes "DESC") (at 78 82) ∷ []
 
 abbrev pub join_tree : CondTree
 join_tree =
@@ -147,10 +147,10 @@ table_tokens =
     word CREATE (at 0 6) ∷ word TABLE (at 7 12) ∷ called (codes "T") (at 13 14) ∷ sign Open (at 15 16)
     ∷ called (codes "A") (at 16 17) ∷ called (codes "INTEGER") (at 18 25) ∷ word PRIMARY (at 26 33)
     ∷ called (codes "KEY") (at 34 37) ∷ sign Comma (at 37 38) ∷ called (codes "B") (at 39 40)
-    ∷ called (codes "CHAR") (at 41 45) ∷ sign Open (at 45 46) ∷ number (pos 3) (at 46 47) ∷ sign Close (at 47 48)
+    ∷ called (codes "CHAR") (at 41 45) ∷ sign Open (at 45 46) ∷ number 3 (at 46 47) ∷ sign Close (at 47 48)
     ∷ called (codes "DEFAULT") (at 49 56) ∷ text (codes "x") (at 57 60) ∷ word NOT (at 61 64) ∷ word NULL (at 65 69)
     ∷ sign Comma (at 69 70) ∷ word CHECK (at 71 76) ∷ sign Open (at 77 78) ∷ called (codes "A") (at 78 79)
-    ∷ sign (Operator Gt) (at 80 81) ∷ number (pos 0) (at 82 83) ∷ sign Close (at 83 84) ∷ sign Comma (at 84 85)
+    ∷ sign (Operator Gt) (at 80 81) ∷ number 0 (at 82 83) ∷ sign Close (at 83 84) ∷ sign Comma (at 84 85)
     ∷ word CONSTRAINT (at 86 96) ∷ called (codes "K") (at 97 98) ∷ word FOREIGN (at 99 106) ∷ called (codes "KEY") (at 107 110)
     ∷ sign Open (at 111 112) ∷ called (codes "B") (at 112 113) ∷ sign Close (at 113 114) ∷ word REFERENCES (at 115 125)
     ∷ called (codes "S") (at 126 127) ∷ sign Open (at 128 129) ∷ called (codes "C") (at 129 130) ∷ sign Close (at 130 131)
@@ -194,4 +194,4 @@ schema_trees =
 -- NOT NOT a = 1, which no condition spells
 abbrev pub not_not_tokens : List Token
 not_not_tokens =
-    word NOT (at 0 3) ∷ word NOT (at 4 7) ∷ called (codes "A") (at 8 9) ∷ sign (Operator Eq) (at 10 11) ∷ number (pos 1) (at 12 13) ∷ []
+    word NOT (at 0 3) ∷ word NOT (at 4 7) ∷ called (codes "A") (at 8 9) ∷ sign (Operator Eq) (at 10 11) ∷ number 1 (at 12 13) ∷ []

@@ -1,12 +1,12 @@
 -- The reading of what a SELECT begins with, and of the entries of FROM by themselves.
-use Rattle.std.specs.Prelude.{Bool, true, false, if◌then◌else◌, List, [], ◌∷◌, Option, Some, None}
+use Rattle.std.specs.Prelude.{pos, Bool, true, false, if◌then◌else◌, List, [], ◌∷◌, Option, Some, None}
 use Rattle.lint_base.specs.declared.place.Span.{Span}
 use Rattle.sql_lex.specs.declared.token.Token.{Token}
 use Rattle.sql_tree.specs.declared.term.NameTree.{NameTree}
+use Rattle.sql_tree.specs.declared.term.TermTree.{TermTree}
 use Rattle.sql_tree.specs.declared.term.TermTree.TheVariants.{Column}
 use Rattle.sql_tree.specs.declared.select.ItemTree.{ItemTree}
 use Rattle.sql_tree.specs.declared.select.ItemTree.TheVariants.{Star, StarOf, Term}
-use Rattle.std.specs.Prelude.{pos}
 use Rattle.sql_parse.specs.grammar.Words.{ALL, DISTINCT}
 use Rattle.sql_parse.specs.reading.Tokens.{Read, found, and_then, is_word, is_comma, is_dot, is_star, is_name, at_head, expect, place_before, read_separated}
 use Rattle.sql_parse.specs.reading.Terms.{read_name, read_alias, read_literal}
@@ -19,7 +19,7 @@ read_quantifier scalar tokens =
     else if at_head (is_word ALL) tokens then and_then (expect (is_word ALL) tokens) (λ t rest. found None rest) else found None tokens
 
 -- [ [ AS ] name ] after a term
-unfoldable pub item_after : List Token → _ → List Token → Read ItemTree
+unfoldable pub item_after : List Token → TermTree → List Token → Read ItemTree
 item_after tokens term rest = and_then (read_alias rest) (λ alias left. found (Term term alias) left)
 
 -- after a name and a dot: * or the name of a column
