@@ -1,2 +1,5 @@
 //! x
 #![tactic(auto)]
+
+mod front;
+mod terms;
