@@ -2,4 +2,5 @@
 #![tactic(auto)]
 
 mod front;
+mod reserved;
 mod terms;
