@@ -1,2 +1,3 @@
 pub mod Ends
 pub mod Called
+pub mod Shorter
