@@ -1,2 +1,4 @@
 //! x
 #![tactic(auto)]
+
+mod refusals;
