@@ -1,4 +1,5 @@
 pub mod Tokens
+pub mod Gives
 pub mod Terms
 pub mod Predicates
 pub mod Items

@@ -1,4 +1,6 @@
 //! x
 #![tactic(auto)]
 
+mod front;
+mod terms;
 mod refusals;
