@@ -55,9 +55,6 @@ pub(crate) enum Mark {
     Name,
 }
 
-pub(crate) const AS: Mark = Mark::Word(3);
-pub(crate) const NULL: Mark = Mark::Word(28);
-
 /// How far a condition may go on: without subqueries where `flat`, and to this depth.
 #[derive(Clone, Copy)]
 pub(crate) struct Nesting {
@@ -65,8 +62,9 @@ pub(crate) struct Nesting {
     pub depth: usize,
 }
 
+/// Whether a token is so.
 #[tactic(auto, unfolding(crate::specs::reading::Tokens::is_word, crate::specs::reading::Tokens::is_open, crate::specs::reading::Tokens::is_close, crate::specs::reading::Tokens::is_comma, crate::specs::reading::Tokens::is_dot, crate::specs::reading::Tokens::is_star, crate::specs::reading::Tokens::is_semicolon, crate::specs::reading::Tokens::is_plus, crate::specs::reading::Tokens::is_name))]
-fn is(kind: &Kind, mark: Mark) -> bool
+pub(crate) fn is(kind: &Kind, mark: Mark) -> bool
     ensures { result ≡ is_mark mark kind.now }
 {
     match mark {

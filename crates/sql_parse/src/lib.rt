@@ -2,5 +2,6 @@
 #![tactic(auto)]
 
 mod front;
+mod reserved;
 mod terms;
 mod refusals;

@@ -4,7 +4,8 @@ ghost use Rattle.sql_parse.specs.reading.Tokens.{and_then, is_comma, read_separa
 ghost use Rattle.sql_parse.specs.reading.Terms.{read_name, read_names, read_alias, read_number, read_signed, read_literal, read_value, read_column, read_bare, read_term, term_after};
 ghost use Rattle.sql_parse.specs.reading.Gives.{Gives};
 
-use crate::front::{AS, Mark, NULL, ParseStop, at, expect, next, place_before};
+use crate::front::{Mark, ParseStop, at, expect, next, place_before};
+use crate::reserved::{AS, NULL};
 use lint_base::{Items, Span};
 use sql_lex::{Kind, Sign, Token};
 use sql_tree::{NameTree, TermTree};
