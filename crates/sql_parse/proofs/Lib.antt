@@ -1,3 +1,4 @@
 pub mod Ends
 pub mod Called
 pub mod Shorter
+pub mod Places

@@ -3,6 +3,7 @@
 
 mod conditions_stub;
 mod front;
+mod refusals;
 mod reserved;
 mod tables;
 mod terms;
