@@ -3,7 +3,7 @@ ghost use Rattle.std.specs.Prelude.{◌≡◌, false, []};
 ghost use Rattle.sql_parse.specs.grammar.Tables.{last_end};
 ghost use Rattle.sql_parse.specs.reading.Gives.{Gives, GivesToken};
 ghost use Rattle.sql_parse.specs.reading.Leaves.{Leaves, GivesAlone};
-ghost use Rattle.sql_parse.specs.reading.Tables.{read_length, character_rest, read_type, read_default, read_constraint, is_set_value, read_action, read_event, read_actions, read_one_name, read_target, read_reference, foreign_tree, begins_rule, read_check, read_column_rule, read_named_rule, read_rules, read_key_names, read_table_rule, read_declared_column, read_element, read_elements, read_create};
+ghost use Rattle.sql_parse.specs.reading.Tables.{read_length, character_rest, read_type, read_default, read_constraint, is_set_value, is_event, read_action, read_event, read_actions, read_one_name, read_target, read_reference, foreign_tree, begins_rule, read_check, read_column_rule, read_named_rule, read_rules, read_key_names, read_table_rule, read_declared_column, read_element, read_elements, read_create};
 
 use crate::conditions_stub::condition;
 use crate::front::{Mark, Nesting, ParseStop, at, expect, is, next};
@@ -119,4 +119,41 @@ fn after_action(tokens: &[Token]) -> Result<&[Token], ParseStop>
     } else {
         Err(ParseStop::Syntax(tokens.len()))
     }
+}
+
+/// The DELETE or UPDATE of an action.
+#[tactic(auto, using(crate::proofs::Called::called_words), unfolding(crate::specs::reading::Tables::is_event, crate::specs::reading::Tokens::expect))]
+fn event(tokens: &[Token]) -> Result<(&Token, &[Token]), ParseStop>
+    ensures { GivesToken is_event tokens.now result }
+{
+    match tokens.split_first() {
+        Some((token, rest))
+            if is_called(&token.kind, "DELETE") || is_called(&token.kind, "UPDATE") =>
+        {
+            Ok((token, rest))
+        }
+        _ => Err(ParseStop::Syntax(tokens.len())),
+    }
+}
+
+/// What follows ON with its event and its action.
+#[tactic(auto, unfolding(crate::specs::reading::Tables::read_event, crate::specs::reading::Tokens::and_then, crate::specs::reading::Tokens::read_after))]
+fn after_event(tokens: &[Token]) -> Result<&[Token], ParseStop>
+    ensures { Leaves [] (read_event 0 tokens.now) result }
+{
+    let (_, rest) = expect(tokens, ON)?;
+    let (_, rest) = event(rest)?;
+    after_action(rest)
+}
+
+/// What follows the actions of a reference.
+#[tactic(auto, unfolding(crate::specs::reading::Tables::read_actions))]
+fn after_actions(tokens: &[Token]) -> Result<&[Token], ParseStop>
+    ensures { Leaves false (read_actions tokens.now) result }
+{
+    let mut rest = tokens;
+    while at(rest, ON) {
+        rest = after_event(rest)?;
+    }
+    Ok(rest)
 }
