@@ -1,3 +1,3 @@
 pub mod Ends
 pub mod Separated
-pub mod Shortens
+pub mod Shorter
