@@ -1,5 +1,6 @@
-pub mod Ends
 pub mod Called
-pub mod Shorter
-pub mod Places
+pub mod Ends
 pub mod Loops
+pub mod Places
+pub mod Separated
+pub mod Shorter
