@@ -4,3 +4,4 @@ pub mod Loops
 pub mod Places
 pub mod Separated
 pub mod Shorter
+pub mod LastEnds

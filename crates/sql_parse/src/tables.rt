@@ -1,5 +1,5 @@
 //! The readers of declarations of tables.
-ghost use Rattle.std.specs.Prelude.{◌≡◌, false, []};
+ghost use Rattle.std.specs.Prelude.{◌≡◌, false, [], ◌∷◌, IfOk};
 ghost use Rattle.sql_parse.specs.grammar.Tables.{last_end};
 ghost use Rattle.sql_parse.specs.reading.Gives.{Gives, GivesToken};
 ghost use Rattle.sql_parse.specs.reading.Leaves.{Leaves, GivesAlone};
@@ -8,11 +8,11 @@ ghost use Rattle.sql_parse.specs.reading.Tables.{read_length, character_rest, re
 use crate::conditions_stub::condition;
 use crate::front::{Mark, Nesting, ParseStop, at, expect, is, next};
 use crate::reserved::{CHECK, CONSTRAINT, CREATE, FOREIGN, NOT, NULL, ON, PRIMARY, REFERENCES, TABLE, UNIQUE};
-use crate::terms::{name, number, value};
+use crate::terms::{name, names, number, value};
 use crate::words::{expect_called, is_called, next_called};
-use lint_base::{Items, Span};
+use lint_base::{Items, NoMemory, Span};
 use sql_lex::{Kind, Token};
-use sql_tree::{CreateTable, Element, NameTree, RuleTree, TypeTree};
+use sql_tree::{CondTree, CreateTable, Element, NameTree, RuleTree, TypeTree};
 use std::alloc::Global;
 
 /// A length in parentheses.
@@ -156,4 +156,106 @@ fn after_actions(tokens: &[Token]) -> Result<&[Token], ParseStop>
         rest = after_event(rest)?;
     }
     Ok(rest)
+}
+
+/// A name in parentheses.
+#[tactic(auto, unfolding(crate::specs::reading::Tables::read_one_name, crate::specs::reading::Tokens::and_then, crate::specs::reading::Tokens::read_after))]
+fn one_name<'a>(alloc: Global, tokens: &'a [Token]) -> Result<(Items<NameTree>, &'a [Token]), ParseStop>
+    ensures { Gives (read_one_name tokens.now) result }
+{
+    let (_, rest) = expect(tokens, Mark::Open)?;
+    let (name, rest) = name(alloc, rest)?;
+    let (_, rest) = expect(rest, Mark::Close)?;
+    let names = alone(alloc, name)?;
+    Ok((names, rest))
+}
+
+/// The columns that a reference names, where it does; at a column one.
+#[tactic(auto, unfolding(crate::specs::reading::Tables::read_target))]
+fn target<'a>(alloc: Global, one: bool, tokens: &'a [Token]) -> Result<(Items<NameTree>, &'a [Token]), ParseStop>
+    ensures { Gives (read_target one tokens.now) result }
+{
+    if !at(tokens, Mark::Open) {
+        Ok((Items::new(alloc), tokens))
+    } else if one {
+        one_name(alloc, tokens)
+    } else {
+        names(alloc, tokens)
+    }
+}
+
+/// A reference: the table and the columns that it names.
+#[tactic(auto, unfolding(crate::specs::reading::Tables::read_reference, crate::specs::reading::Tokens::and_then, crate::specs::reading::Tokens::read_after))]
+fn reference<'a>(alloc: Global, one: bool, tokens: &'a [Token]) -> Result<((NameTree, Items<NameTree>), &'a [Token]), ParseStop>
+    ensures { Gives (read_reference one tokens.now) result }
+{
+    let (_, rest) = expect(tokens, REFERENCES)?;
+    let (table, rest) = name(alloc, rest)?;
+    let (target, rest) = target(alloc, one, rest)?;
+    let rest = after_actions(rest)?;
+    Ok(((table, target), rest))
+}
+
+/// Where the last name of a reference ends.
+#[tactic(auto, using(crate::proofs::LastEnds::last_end_rules))]
+fn last_end(table: &NameTree, target: &[NameTree]) -> u32
+    ensures { result ≡ last_end table.now target.now }
+{
+    match target.last() {
+        Some(name) => name.span.to,
+        None => table.span.to,
+    }
+}
+
+/// A foreign key whose rule begins at this place.
+fn foreign(columns: Items<NameTree>, place: Span, table: NameTree, target: Items<NameTree>) -> RuleTree
+    ensures { result ≡ foreign_tree columns place (table, target) }
+{
+    let span = Span {
+        from: place.from,
+        to: last_end(&table, target.as_slice()),
+    };
+    RuleTree::Foreign {
+        columns,
+        table,
+        target,
+        span,
+    }
+}
+
+/// CHECK with its condition, which has no subquery.
+#[tactic(auto, unfolding(crate::specs::reading::Tables::read_check, crate::specs::reading::Tokens::and_then, crate::specs::reading::Tokens::read_after))]
+fn check<'a>(alloc: Global, depth: usize, tokens: &'a [Token]) -> Result<(CondTree, &'a [Token]), ParseStop>
+    ensures { Gives (read_check depth tokens.now) result }
+{
+    let (_, rest) = expect(tokens, CHECK)?;
+    let (_, rest) = expect(rest, Mark::Open)?;
+    let (tree, rest) = condition(alloc, rest, Nesting { flat: true, depth })?;
+    let (_, rest) = expect(rest, Mark::Close)?;
+    Ok((tree, rest))
+}
+
+/// The same name.
+fn copy_of(alloc: Global, name: &NameTree) -> Result<NameTree, NoMemory>
+    ensures { IfOk result (λ copy. copy ≡ name.now) }
+{
+    let text = name.text.copy(alloc)?;
+    Ok(NameTree { text, span: name.span })
+}
+
+/// The list of one name.
+fn alone(alloc: Global, name: NameTree) -> Result<Items<NameTree>, NoMemory>
+    ensures { IfOk result (λ names. names ≡ name ∷ []) }
+{
+    let mut names = Items::new(alloc);
+    names.push(name)?;
+    Ok(names)
+}
+
+/// A column as the one column of its rule.
+fn column_alone(alloc: Global, column: &NameTree) -> Result<Items<NameTree>, NoMemory>
+    ensures { IfOk result (λ names. names ≡ column.now ∷ []) }
+{
+    let column = copy_of(alloc, column)?;
+    alone(alloc, column)
 }
