@@ -5,3 +5,4 @@ pub mod Places
 pub mod Separated
 pub mod Shorter
 pub mod LastEnds
+pub mod Rules

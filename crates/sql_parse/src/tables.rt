@@ -1,9 +1,10 @@
 //! The readers of declarations of tables.
-ghost use Rattle.std.specs.Prelude.{◌≡◌, false, [], ◌∷◌, IfOk};
+ghost use Rattle.std.specs.Prelude.{◌≡◌, ℕ, false, [], ◌∷◌, ◌++◌, IfOk, OnOk};
 ghost use Rattle.sql_parse.specs.grammar.Tables.{last_end};
+ghost use Rattle.sql_parse.specs.reading.Tokens.{at_head};
 ghost use Rattle.sql_parse.specs.reading.Gives.{Gives, GivesToken};
-ghost use Rattle.sql_parse.specs.reading.Leaves.{Leaves, GivesAlone};
-ghost use Rattle.sql_parse.specs.reading.Tables.{read_length, character_rest, read_type, read_default, read_constraint, is_set_value, is_event, read_action, read_event, read_actions, read_one_name, read_target, read_reference, foreign_tree, begins_rule, read_check, read_column_rule, read_named_rule, read_rules, read_key_names, read_table_rule, read_declared_column, read_element, read_elements, read_create};
+ghost use Rattle.sql_parse.specs.reading.Leaves.{Leaves, GivesAlone, alone};
+ghost use Rattle.sql_parse.specs.reading.Tables.{read_length, character_rest, read_type, read_default, read_constraint, is_set_value, is_event, read_action, read_event, read_actions, read_one_name, read_target, read_reference, foreign_tree, begins_rule, read_check, word_rule, read_column_rule, read_named_rule, read_rules, read_key_names, read_table_rule, read_declared_column, read_element, read_elements, read_create};
 
 use crate::conditions_stub::condition;
 use crate::front::{Mark, Nesting, ParseStop, at, expect, is, next};
@@ -201,8 +202,8 @@ fn reference<'a>(alloc: Global, one: bool, tokens: &'a [Token]) -> Result<((Name
 fn last_end(table: &NameTree, target: &[NameTree]) -> u32
     ensures { result ≡ last_end table.now target.now }
 {
-    match target.last() {
-        Some(name) => name.span.to,
+    match target.split_last() {
+        Some((name, _)) => name.span.to,
         None => table.span.to,
     }
 }
@@ -259,3 +260,115 @@ fn column_alone(alloc: Global, column: &NameTree) -> Result<Items<NameTree>, NoM
     let column = copy_of(alloc, column)?;
     alone(alloc, column)
 }
+
+/// What follows the first word of a rule at a column that a word says without more.
+#[tactic(auto, using(crate::proofs::Called::called_words), unfolding(crate::specs::reading::Tables::word_rule, crate::specs::reading::Tokens::and_then))]
+fn word_rule<'a>(alloc: Global, column: &NameTree, token: &Token, rest: &'a [Token]) -> Result<(Option<RuleTree>, &'a [Token]), ParseStop>
+    ensures { (depth : ℕ) → GivesAlone (word_rule depth column.now token.now.kind token.now.span rest.now) result }
+{
+    if is(&token.kind, NOT) {
+        let (_, rest) = expect(rest, NULL)?;
+        Ok((Some(RuleTree::NotNull), rest))
+    } else if is(&token.kind, NULL) {
+        Ok((None, rest))
+    } else if is(&token.kind, UNIQUE) {
+        let columns = column_alone(alloc, column)?;
+        Ok((Some(RuleTree::Unique { columns }), rest))
+    } else if is(&token.kind, PRIMARY) {
+        let (_, rest) = expect_called(rest, "KEY")?;
+        let columns = column_alone(alloc, column)?;
+        let span = token.span;
+        Ok((Some(RuleTree::Primary { columns, span }), rest))
+    } else {
+        Err(ParseStop::Syntax(rest.len() + 1))
+    }
+}
+
+/// A rule at a column. NULL is none.
+#[tactic(auto, unfolding(crate::specs::reading::Tables::read_column_rule, crate::specs::reading::Tables::column_rule_from, crate::specs::reading::Tokens::and_then))]
+fn column_rule<'a>(alloc: Global, depth: usize, column: &NameTree, tokens: &'a [Token]) -> Result<(Option<RuleTree>, &'a [Token]), ParseStop>
+    ensures { GivesAlone (read_column_rule depth column.now tokens.now) result }
+{
+    let Some((token, rest)) = tokens.split_first() else {
+        return Err(ParseStop::Syntax(0));
+    };
+    if is(&token.kind, CHECK) {
+        let (tree, rest) = check(alloc, depth, tokens)?;
+        Ok((Some(RuleTree::Check(tree)), rest))
+    } else if is(&token.kind, REFERENCES) {
+        let ((table, target), rest) = reference(alloc, true, tokens)?;
+        let columns = column_alone(alloc, column)?;
+        Ok((Some(foreign(columns, token.span, table, target)), rest))
+    } else {
+        word_rule(alloc, column, token, rest)
+    }
+}
+
+/// A rule at a column that may have a name.
+#[tactic(auto, unfolding(crate::specs::reading::Tables::read_named_rule, crate::specs::reading::Tokens::and_then))]
+fn named_rule<'a>(alloc: Global, depth: usize, column: &NameTree, tokens: &'a [Token]) -> Result<(Option<RuleTree>, &'a [Token]), ParseStop>
+    ensures { (count : ℕ) → GivesAlone (read_named_rule depth column.now count tokens.now) result }
+{
+    let rest = after_constraint(alloc, tokens)?;
+    column_rule(alloc, depth, column, rest)
+}
+
+/// What a rule at a column begins with.
+#[tactic(auto, unfolding(crate::specs::reading::Tables::begins_rule))]
+fn begins_rule(kind: &Kind) -> bool
+    ensures { result ≡ begins_rule kind.now }
+{
+    is(kind, CONSTRAINT)
+        || is(kind, NOT)
+        || is(kind, NULL)
+        || is(kind, UNIQUE)
+        || is(kind, PRIMARY)
+        || is(kind, CHECK)
+        || is(kind, REFERENCES)
+}
+
+/// Whether a rule at a column comes first.
+#[tactic(auto, unfolding(crate::specs::reading::Tokens::at_head))]
+fn at_rule(tokens: &[Token]) -> bool
+    ensures { result ≡ at_head begins_rule tokens.now }
+{
+    match tokens.split_first() {
+        Some((token, _)) => begins_rule(&token.kind),
+        None => false,
+    }
+}
+
+/// Adds the item, if there is one.
+pub(crate) fn add_optional<T: Drop>(items: &mut Items<T>, item: Option<T>) -> Result<(), NoMemory>
+    ensures { OnOk result (items.new ≡ items.old ++ alone item) }
+{
+    match item {
+        Some(item) => items.push(item),
+        None => Ok(()),
+    }
+}
+
+/// The rules at a column.
+#[tactic(auto, unfolding(crate::specs::reading::Tables::read_rules))]
+fn rules<'a>(alloc: Global, depth: usize, column: &NameTree, tokens: &'a [Token]) -> Result<(Items<RuleTree>, &'a [Token]), ParseStop>
+    ensures { Gives (read_rules depth column.now tokens.now) result }
+{
+    let mut rules = Items::new(alloc);
+    let mut rest = tokens;
+    while at_rule(rest) {
+        let (rule, after) = named_rule(alloc, depth, column, rest)?;
+        add_optional(&mut rules, rule)?;
+        rest = after;
+    }
+    Ok((rules, rest))
+}
+
+/// The names after KEY.
+#[tactic(auto, using(crate::proofs::Called::called_words), unfolding(crate::specs::reading::Tables::read_key_names, crate::specs::reading::Tokens::and_then, crate::specs::reading::Tokens::read_after))]
+fn key_names<'a>(alloc: Global, tokens: &'a [Token]) -> Result<(Items<NameTree>, &'a [Token]), ParseStop>
+    ensures { (depth : ℕ) → Gives (read_key_names depth tokens.now) result }
+{
+    let (_, rest) = expect_called(tokens, "KEY")?;
+    names(alloc, rest)
+}
+
