@@ -1,10 +1,11 @@
 //! The readers of declarations of tables.
-ghost use Rattle.std.specs.Prelude.{◌≡◌, ℕ, false, [], ◌∷◌, ◌++◌, IfOk, OnOk};
+ghost use Rattle.std.specs.Prelude.{◌≡◌, ℕ, false, [], ◌∷◌, ◌++◌, codes, IfOk, OnOk};
 ghost use Rattle.sql_parse.specs.grammar.Tables.{last_end};
-ghost use Rattle.sql_parse.specs.reading.Tokens.{at_head};
+ghost use Rattle.sql_parse.specs.reading.Tokens.{is_called, is_comma, at_head, read_after, read_separated};
+ghost use Rattle.sql_parse.specs.reading.Terms.{read_names};
 ghost use Rattle.sql_parse.specs.reading.Gives.{Gives, GivesToken};
 ghost use Rattle.sql_parse.specs.reading.Leaves.{Leaves, GivesAlone, alone};
-ghost use Rattle.sql_parse.specs.reading.Tables.{read_length, character_rest, read_type, read_default, read_constraint, is_set_value, is_event, read_action, read_event, read_actions, read_one_name, read_target, read_reference, foreign_tree, begins_rule, read_check, word_rule, read_column_rule, read_named_rule, read_rules, read_key_names, read_table_rule, read_declared_column, read_element, read_elements, read_create};
+ghost use Rattle.sql_parse.specs.reading.Tables.{read_length, character_rest, read_type, read_default, read_constraint, is_set_value, is_event, read_action, read_event, read_actions, read_one_name, read_target, read_reference, foreign_tree, begins_rule, read_check, word_rule, read_column_rule, read_named_rule, read_rules, read_table_rule, read_declared_column, read_element, read_elements, read_create};
 
 use crate::conditions_stub::condition;
 use crate::front::{Mark, Nesting, ParseStop, at, expect, is, next};
@@ -364,11 +365,100 @@ fn rules<'a>(alloc: Global, depth: usize, column: &NameTree, tokens: &'a [Token]
 }
 
 /// The names after KEY.
-#[tactic(auto, using(crate::proofs::Called::called_words), unfolding(crate::specs::reading::Tables::read_key_names, crate::specs::reading::Tokens::and_then, crate::specs::reading::Tokens::read_after))]
+#[tactic(auto, using(crate::proofs::Called::called_words), unfolding(crate::specs::reading::Tokens::and_then, crate::specs::reading::Tokens::read_after))]
 fn key_names<'a>(alloc: Global, tokens: &'a [Token]) -> Result<(Items<NameTree>, &'a [Token]), ParseStop>
-    ensures { (depth : ℕ) → Gives (read_key_names depth tokens.now) result }
+    ensures { Gives (read_after (is_called (codes "KEY")) read_names tokens.now) result }
 {
     let (_, rest) = expect_called(tokens, "KEY")?;
     names(alloc, rest)
 }
 
+/// A rule beside the columns.
+#[tactic(auto, unfolding(crate::specs::reading::Tables::read_table_rule, crate::specs::reading::Tables::table_rule_from, crate::specs::reading::Tables::read_key_names, crate::specs::reading::Tokens::and_then))]
+fn table_rule<'a>(alloc: Global, depth: usize, tokens: &'a [Token]) -> Result<(RuleTree, &'a [Token]), ParseStop>
+    ensures { Gives (read_table_rule depth tokens.now) result }
+{
+    let Some((Token { kind, span }, rest)) = tokens.split_first() else {
+        return Err(ParseStop::Syntax(0));
+    };
+    if is(kind, UNIQUE) {
+        let (columns, rest) = names(alloc, rest)?;
+        Ok((RuleTree::Unique { columns }, rest))
+    } else if is(kind, PRIMARY) {
+        let (columns, rest) = key_names(alloc, rest)?;
+        Ok((RuleTree::Primary { columns, span: *span }, rest))
+    } else if is(kind, CHECK) {
+        let (tree, rest) = check(alloc, depth, tokens)?;
+        Ok((RuleTree::Check(tree), rest))
+    } else if is(kind, FOREIGN) {
+        let (columns, rest) = key_names(alloc, rest)?;
+        let ((table, target), rest) = reference(alloc, false, rest)?;
+        Ok((foreign(columns, *span, table, target), rest))
+    } else {
+        Err(ParseStop::Syntax(tokens.len()))
+    }
+}
+
+/// A column with its type and its rules.
+#[tactic(auto, unfolding(crate::specs::reading::Tables::read_declared_column, crate::specs::reading::Tokens::and_then))]
+fn column<'a>(alloc: Global, depth: usize, tokens: &'a [Token]) -> Result<(Element, &'a [Token]), ParseStop>
+    ensures { Gives (read_declared_column depth tokens.now) result }
+{
+    let (name, rest) = name(alloc, tokens)?;
+    let (kind, rest) = type_of_column(rest)?;
+    let rest = after_default(alloc, rest)?;
+    let (rules, rest) = rules(alloc, depth, &name, rest)?;
+    Ok((Element::Column { name, kind, rules }, rest))
+}
+
+/// A column, or a rule beside the columns.
+#[tactic(auto, unfolding(crate::specs::reading::Tables::read_element, crate::specs::reading::Tokens::and_then))]
+fn element<'a>(alloc: Global, depth: usize, tokens: &'a [Token]) -> Result<(Element, &'a [Token]), ParseStop>
+    ensures { Gives (read_element depth tokens.now) result }
+{
+    if at(tokens, Mark::Name) {
+        return column(alloc, depth, tokens);
+    }
+    let rest = after_constraint(alloc, tokens)?;
+    let (rule, rest) = table_rule(alloc, depth, rest)?;
+    Ok((Element::Rule(rule), rest))
+}
+
+/// Elements with commas between them.
+#[tactic(auto, using(crate::proofs::Separated::separated_rules, crate::proofs::Shorter::element_shorter))]
+fn listed_elements<'a>(alloc: Global, depth: usize, tokens: &'a [Token]) -> Result<(Items<Element>, &'a [Token]), ParseStop>
+    ensures { Gives (read_separated is_comma (read_element depth) tokens.now) result }
+{
+    let (first, mut rest) = element(alloc, depth, tokens)?;
+    let mut elements = Items::new(alloc);
+    elements.push(first)?;
+    while let Some((_, after)) = next(rest, Mark::Comma) {
+        let (other, after) = element(alloc, depth, after)?;
+        elements.push(other)?;
+        rest = after;
+    }
+    Ok((elements, rest))
+}
+
+/// The elements of a table, in parentheses.
+#[tactic(auto, unfolding(crate::specs::reading::Tables::read_elements, crate::specs::reading::Tokens::and_then, crate::specs::reading::Tokens::read_after))]
+fn elements<'a>(alloc: Global, depth: usize, tokens: &'a [Token]) -> Result<(Items<Element>, &'a [Token]), ParseStop>
+    ensures { Gives (read_elements depth tokens.now) result }
+{
+    let (_, rest) = expect(tokens, Mark::Open)?;
+    let (elements, rest) = listed_elements(alloc, depth, rest)?;
+    let (_, rest) = expect(rest, Mark::Close)?;
+    Ok((elements, rest))
+}
+
+/// A declaration of a table. Conditions are nested to less than the depth.
+#[tactic(auto, unfolding(crate::specs::reading::Tables::read_create, crate::specs::reading::Tokens::and_then, crate::specs::reading::Tokens::read_after))]
+pub(crate) fn create<'a>(alloc: Global, depth: usize, tokens: &'a [Token]) -> Result<(CreateTable, &'a [Token]), ParseStop>
+    ensures { Gives (read_create depth tokens.now) result }
+{
+    let (_, rest) = expect(tokens, CREATE)?;
+    let (_, rest) = expect(rest, TABLE)?;
+    let (name, rest) = name(alloc, rest)?;
+    let (elements, rest) = elements(alloc, depth, rest)?;
+    Ok((CreateTable { name, elements }, rest))
+}
