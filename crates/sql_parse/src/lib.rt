@@ -4,3 +4,4 @@
 mod front;
 mod reserved;
 mod terms;
+mod predicates;
