@@ -2,6 +2,7 @@
 #![tactic(auto)]
 
 mod front;
+mod items;
+mod predicates;
 mod reserved;
 mod terms;
-mod predicates;

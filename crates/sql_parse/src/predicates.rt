@@ -28,30 +28,59 @@ pub(crate) fn not_word(tokens: &[Token]) -> Result<(bool, &[Token]), ParseStop>
 
 /// What comes after IS.
 #[tactic(auto, unfolding(crate::specs::reading::Predicates::null_rest, crate::specs::reading::Tokens::and_then))]
-pub(crate) fn null_rest<'a>(tokens: &'a [Token], term: TermTree, rest: &'a [Token]) -> Result<(CondTree, &'a [Token]), ParseStop>
+pub(crate) fn null_rest<'a>(
+    tokens: &'a [Token],
+    term: TermTree,
+    rest: &'a [Token],
+) -> Result<(CondTree, &'a [Token]), ParseStop>
     ensures { (sub : Bool → List Tokens → Read SelectTree) → Gives (null_rest sub tokens.now term rest.now) result }
 {
     let (negated, rest) = not_word(rest)?;
     let (_, rest) = expect(rest, NULL)?;
     let span = place_before(tokens, rest);
-    Ok((CondTree::IsNull { term, negated, span }, rest))
+    Ok((
+        CondTree::IsNull {
+            term,
+            negated,
+            span,
+        },
+        rest,
+    ))
 }
 
 /// What comes after BETWEEN.
 #[tactic(auto, unfolding(crate::specs::reading::Predicates::between_rest, crate::specs::reading::Tokens::and_then))]
-pub(crate) fn between_rest<'a>(alloc: Global, tokens: &'a [Token], first: TermTree, negated: bool, rest: &'a [Token]) -> Result<(CondTree, &'a [Token]), ParseStop>
+pub(crate) fn between_rest<'a>(
+    alloc: Global,
+    tokens: &'a [Token],
+    first: TermTree,
+    negated: bool,
+    rest: &'a [Token],
+) -> Result<(CondTree, &'a [Token]), ParseStop>
     ensures { (sub : Bool → List Tokens → Read SelectTree) → Gives (between_rest sub tokens.now first negated rest.now) result }
 {
     let (low, rest) = term(alloc, rest)?;
     let (_, rest) = expect(rest, AND)?;
     let (high, rest) = term(alloc, rest)?;
     let span = place_before(tokens, rest);
-    Ok((CondTree::Between { term: first, low, high, negated, span }, rest))
+    Ok((
+        CondTree::Between {
+            term: first,
+            low,
+            high,
+            negated,
+            span,
+        },
+        rest,
+    ))
 }
 
 /// Values with commas between them.
 #[tactic(auto, using(crate::proofs::Separated::separated_rules, crate::proofs::Shorter::value_shorter))]
-fn listed_values<'a>(alloc: Global, tokens: &'a [Token]) -> Result<(Items<TermTree>, &'a [Token]), ParseStop>
+fn listed_values<'a>(
+    alloc: Global,
+    tokens: &'a [Token],
+) -> Result<(Items<TermTree>, &'a [Token]), ParseStop>
     ensures { Gives (read_separated is_comma read_value tokens.now) result }
 {
     let (first, mut rest) = value(alloc, tokens)?;
@@ -67,11 +96,25 @@ fn listed_values<'a>(alloc: Global, tokens: &'a [Token]) -> Result<(Items<TermTr
 
 /// What comes after IN and a parenthesis, where it is no subquery.
 #[tactic(auto, unfolding(crate::specs::reading::Predicates::values_rest, crate::specs::reading::Tokens::and_then))]
-pub(crate) fn values_rest<'a>(alloc: Global, tokens: &'a [Token], term: TermTree, negated: bool, rest: &'a [Token]) -> Result<(CondTree, &'a [Token]), ParseStop>
+pub(crate) fn values_rest<'a>(
+    alloc: Global,
+    tokens: &'a [Token],
+    term: TermTree,
+    negated: bool,
+    rest: &'a [Token],
+) -> Result<(CondTree, &'a [Token]), ParseStop>
     ensures { (sub : Bool → List Tokens → Read SelectTree) → Gives (values_rest sub tokens.now term negated rest.now) result }
 {
     let (values, rest) = listed_values(alloc, rest)?;
     let (_, rest) = expect(rest, Mark::Close)?;
     let span = place_before(tokens, rest);
-    Ok((CondTree::InList { term, values, negated, span }, rest))
+    Ok((
+        CondTree::InList {
+            term,
+            values,
+            negated,
+            span,
+        },
+        rest,
+    ))
 }
