@@ -3,6 +3,7 @@
 
 mod front;
 mod items;
+mod lists;
 mod predicates;
 mod reserved;
 mod terms;
