@@ -1,3 +1,4 @@
 pub mod Ends
 pub mod Separated
 pub mod Shorter
+pub mod Called

@@ -1,6 +1,7 @@
 pub mod Tokens
 pub mod Gives
 pub mod Separated
+pub mod Leaves
 pub mod Terms
 pub mod Predicates
 pub mod Items
