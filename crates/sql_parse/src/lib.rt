@@ -5,6 +5,7 @@ mod conditions_stub;
 mod front;
 mod items;
 mod lists;
+mod orders;
 mod predicates;
 mod reserved;
 mod tables;

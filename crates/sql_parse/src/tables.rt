@@ -7,7 +7,9 @@ ghost use Rattle.sql_parse.specs.reading.Tables.{read_length, character_rest, re
 
 use crate::conditions_stub::condition;
 use crate::front::{Mark, Nesting, ParseStop, at, expect, is, next};
-use crate::reserved::{CHECK, CONSTRAINT, CREATE, FOREIGN, NOT, NULL, ON, PRIMARY, REFERENCES, TABLE, UNIQUE};
+use crate::reserved::{
+    CHECK, CONSTRAINT, CREATE, FOREIGN, NOT, NULL, ON, PRIMARY, REFERENCES, TABLE, UNIQUE,
+};
 use crate::terms::{name, number, value};
 use crate::words::{expect_called, is_called, next_called};
 use lint_base::{Items, Span};
@@ -36,7 +38,13 @@ fn character_rest(place: Span, tokens: &[Token]) -> Result<(TypeTree, &[Token]),
     }
     match next_called(tokens, "VARYING") {
         Some((_, rest)) => length_of_text(rest),
-        None => Ok((TypeTree::Text { length: 1, span: place }, tokens)),
+        None => Ok((
+            TypeTree::Text {
+                length: 1,
+                span: place,
+            },
+            tokens,
+        )),
     }
 }
 
