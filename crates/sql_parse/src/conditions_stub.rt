@@ -7,7 +7,11 @@ use sql_lex::Token;
 use sql_tree::CondTree;
 use std::alloc::Global;
 
-pub(crate) fn condition<'a>(alloc: Global, tokens: &'a [Token], within: Nesting) -> Result<(CondTree, &'a [Token]), ParseStop>
+pub(crate) fn condition<'a>(
+    alloc: Global,
+    tokens: &'a [Token],
+    within: Nesting,
+) -> Result<(CondTree, &'a [Token]), ParseStop>
     ensures { Gives (read_cond within.flat within.depth tokens.now) result }
 {
     let _ = (alloc, tokens.len(), within.flat);

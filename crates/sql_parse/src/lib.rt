@@ -3,6 +3,10 @@
 
 mod conditions_stub;
 mod front;
+mod items;
+mod lists;
+mod orders;
+mod predicates;
 mod refusals;
 mod reserved;
 mod tables;

@@ -38,7 +38,10 @@ pub(crate) fn next_called<'a>(tokens: &'a [Token], word: &str) -> Option<(&'a To
 
 /// The same, where nothing else can be.
 #[tactic(auto, unfolding(crate::specs::reading::Tokens::expect))]
-pub(crate) fn expect_called<'a>(tokens: &'a [Token], word: &str) -> Result<(&'a Token, &'a [Token]), ParseStop>
+pub(crate) fn expect_called<'a>(
+    tokens: &'a [Token],
+    word: &str,
+) -> Result<(&'a Token, &'a [Token]), ParseStop>
     ensures { GivesToken (is_called (chars word.now)) tokens.now result }
 {
     match tokens.split_first() {
