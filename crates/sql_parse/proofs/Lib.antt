@@ -1,0 +1,3 @@
+pub mod CompleteTokens
+pub mod CompleteLists
+pub mod CompleteTerms
