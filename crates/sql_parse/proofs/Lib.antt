@@ -1,3 +1,4 @@
 pub mod CompleteTokens
 pub mod CompleteLists
 pub mod CompleteTerms
+pub mod CompletePredicates
