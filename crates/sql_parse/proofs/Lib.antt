@@ -2,3 +2,4 @@ pub mod CompleteTokens
 pub mod CompleteLists
 pub mod CompleteTerms
 pub mod CompletePredicates
+pub mod CompleteItems
