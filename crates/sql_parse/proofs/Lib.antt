@@ -3,3 +3,4 @@ pub mod CompleteLists
 pub mod CompleteTerms
 pub mod CompletePredicates
 pub mod CompleteItems
+pub mod CompleteFlat
