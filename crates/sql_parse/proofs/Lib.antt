@@ -4,3 +4,4 @@ pub mod CompleteTerms
 pub mod CompletePredicates
 pub mod CompleteItems
 pub mod CompleteFlat
+pub mod CompleteConditions
