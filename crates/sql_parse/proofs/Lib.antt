@@ -5,3 +5,4 @@ pub mod CompletePredicates
 pub mod CompleteItems
 pub mod CompleteFlat
 pub mod CompleteConditions
+pub mod CompleteFrom
