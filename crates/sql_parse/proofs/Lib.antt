@@ -6,3 +6,4 @@ pub mod CompleteItems
 pub mod CompleteFlat
 pub mod CompleteConditions
 pub mod CompleteFrom
+pub mod CompleteSelects
