@@ -7,3 +7,4 @@ pub mod CompleteFlat
 pub mod CompleteConditions
 pub mod CompleteFrom
 pub mod CompleteSelects
+pub mod CompleteQueries
