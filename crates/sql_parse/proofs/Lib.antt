@@ -8,3 +8,4 @@ pub mod CompleteConditions
 pub mod CompleteFrom
 pub mod CompleteSelects
 pub mod CompleteQueries
+pub mod CompleteTables
