@@ -3,7 +3,6 @@ use Rattle.std.proofs.Common.{ℕ, pos, ◌+◌, ◌≤◌, ◌≡◌, refl, ap,
 use Rattle.std.proofs.lemmas.List.{append_assoc, append-nil, length-append}
 use Rattle.lint_base.specs.declared.place.Span.{Span}
 use Rattle.sql_lex.specs.declared.token.Kind.{Kind}
-use Rattle.sql_lex.specs.declared.token.Kind.TheVariants as kind
 use Rattle.sql_lex.specs.declared.token.Token.{Token}
 use Rattle.sql_tree.specs.declared.term.TermTree.{TermTree}
 use Rattle.sql_tree.specs.declared.select.OrderTree.{OrderTree}
@@ -18,16 +17,10 @@ use Rattle.sql_parse.specs.reading.Tokens.{Read, found, and_then, is_word, is_co
 use Rattle.sql_parse.specs.reading.Terms.{read_bare, read_number}
 use Rattle.sql_parse.specs.reading.Selects.{Parts, placed, read_select, read_cond}
 use Rattle.sql_parse.specs.reading.Queries.{is_direction, directed, read_key, read_order, read_query, query_of}
-use Rattle.sql_parse.proofs.CompleteTokens.{kind_rank, place_rank, rank, no_name}
+use Rattle.sql_parse.proofs.CompleteTokens.{kind_rank, place_rank, rank, no_name, not_called}
 use Rattle.sql_parse.proofs.CompleteLists.{list_read}
 use Rattle.sql_parse.proofs.CompleteTerms.{number_is_read, bare_read, column_named}
 use Rattle.sql_parse.proofs.CompleteSelects.{ReadsSelect, select_reads}
-
--- a word that is no reserved one is a name
-pub not_called : (word : List ℕ) (k : Kind) → is_name k ≡ false → is_called word k ≡ false
-unfolding is_name is_called
-not_called word (kind.Name text quoted) h = cc
-not_called word _ h = refl
 
 no_direction_kind : (k : Kind) → is_name k ≡ false → is_direction k ≡ false
 unfolding is_direction

@@ -9,7 +9,7 @@ use Rattle.sql_lex.specs.declared.token.Kind.{Kind}
 use Rattle.sql_lex.specs.declared.token.Kind.TheVariants.{Name, Reserved, Sign}
 use Rattle.sql_lex.specs.declared.token.Token.{Token}
 use Rattle.sql_parse.specs.grammar.Words.{span_of, AND, AS, CHECK, CONSTRAINT, CROSS, INNER, JOIN, NOT, NULL, ON, OR, ORDER, PRIMARY, REFERENCES, UNIQUE, WHERE}
-use Rattle.sql_parse.specs.reading.Tokens.{Read, found, and_then, is_word, is_open, is_comma, is_dot, is_plus, is_name, at_head, place_before, all_read}
+use Rattle.sql_parse.specs.reading.Tokens.{Read, found, and_then, is_word, is_open, is_comma, is_dot, is_plus, is_name, is_called, at_head, place_before, all_read}
 
 -- a reading goes on from what is found
 pub then_found : {A B : Type 0} (f : Read A) (k : A → List Token → Read B) (a : A) (rest : List Token) → f ≡ found a rest → and_then f k ≡ k a rest
@@ -114,6 +114,12 @@ pub no_name : (rest : List Token) → 5 ≤ rank rest → at_head is_name rest �
 unfolding at_head rank
 no_name [] h = refl
 no_name (t ∷ rest) h = name_rank t.kind h
+
+-- a word that is no reserved one is a name
+pub not_called : (word : List ℕ) (k : Kind) → is_name k ≡ false → is_called word k ≡ false
+unfolding is_name is_called
+not_called word (Name text quoted) h = cc
+not_called word _ h = refl
 
 open_rank : (k : Kind) → 6 ≤ kind_rank k → is_open k ≡ false
 unfolding is_open kind_rank

@@ -9,3 +9,4 @@ pub mod CompleteFrom
 pub mod CompleteSelects
 pub mod CompleteQueries
 pub mod CompleteTables
+pub mod CompleteRules
