@@ -10,3 +10,4 @@ pub mod CompleteSelects
 pub mod CompleteQueries
 pub mod CompleteTables
 pub mod CompleteRules
+pub mod CompleteSchemas
