@@ -11,3 +11,7 @@ pub mod CompleteQueries
 pub mod CompleteTables
 pub mod CompleteRules
 pub mod CompleteSchemas
+pub mod Complete
+pub mod GrammarExamples
+pub mod GrammarBegins
+pub mod GrammarRefused
