@@ -16,11 +16,6 @@ pub after_read : {A : Type 0} (test : Kind → Bool) (read : List Token → Read
 unfolding read_after expect and_then
 after_read test read t tokens a rest h e = rw (h, e) refl
 
--- a token that is so is expected
-pub expected : (test : Kind → Bool) (t : Token) (rest : List Token) → test t.kind ≡ true → expect test (t ∷ rest) ≡ found t rest
-unfolding expect
-expected test t rest h = rw h refl
-
 -- the parts of a loop, with what follows them, are read by any clock that is more than their tokens
 module _ {A : Type 0} (begins : List Token → Bool) (read : ℕ → List Token → Read (List A)) where
   abbrev pub Looped : ℕ → List A → List Token → List Token → Type 0

@@ -75,12 +75,15 @@ unfolding Heads
 values_heads [] tokens s rest = absurd s
 values_heads (part ∷ parts) tokens s rest = rw (s.2, append_assoc s.0 s.1 rest) (value_heads part s.0 s.3 (s.1 ++ rest)).3
 
--- a predicate begins with a term
+-- what begins with a term
+pub begun_heads : {tree : TermTree} {tokens own : List Token} (tail : List Token) → tokens ≡ own ++ tail → SpellsTerm tree own → (rest : List Token) → Heads (tokens ++ rest)
+begun_heads {tree} {tokens} {own} tail whole s rest = rw (whole, append_assoc own tail rest) (term_heads tree own s (tail ++ rest))
+
 pub predicate_heads : (tree : CondTree) (tokens : List Token) → SpellsPredicate tree tokens → (rest : List Token) → Heads (tokens ++ rest)
-predicate_heads tree tokens (predicate.compare s) rest = rw (s.whole, append_assoc s.before (sign (Operator s.op) s.op_at ∷ s.after) rest) (term_heads s.left s.before s.left_term _)
-predicate_heads tree tokens (predicate.is_null s) rest = rw (s.whole, append_assoc s.own _ rest) (term_heads s.term s.own s.own_term _)
-predicate_heads tree tokens (predicate.between s) rest = rw (s.whole, append_assoc s.own _ rest) (term_heads s.term s.own s.own_term _)
-predicate_heads tree tokens (predicate.in_list s) rest = rw (s.whole, append_assoc s.own _ rest) (term_heads s.term s.own s.own_term _)
+predicate_heads tree tokens (predicate.compare s) rest = begun_heads _ s.whole s.left_term rest
+predicate_heads tree tokens (predicate.is_null s) rest = begun_heads _ s.whole s.own_term rest
+predicate_heads tree tokens (predicate.between s) rest = begun_heads _ s.whole s.own_term rest
+predicate_heads tree tokens (predicate.in_list s) rest = begun_heads _ s.whole s.own_term rest
 
 values_read : (values : List TermTree) (listed : List Token) → SpellsList SpellsValue values listed → (rest : List Token) → 7 ≤ rank rest →
     read_separated is_comma read_value (listed ++ rest) ≡ found values rest

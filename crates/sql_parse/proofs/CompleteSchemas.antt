@@ -11,6 +11,7 @@ use Rattle.sql_tree.specs.declared.schema.Element.{Element}
 use Rattle.sql_tree.specs.declared.schema.Element.TheVariants as element
 use Rattle.sql_tree.specs.declared.schema.CreateTable.{CreateTable}
 use Rattle.sql_parse.specs.grammar.Words.{word, sign, CONSTRAINT, CREATE, TABLE}
+use Rattle.sql_parse.specs.grammar.Lists.{SpellsList}
 use Rattle.sql_parse.specs.grammar.Names.{name_token}
 use Rattle.sql_parse.specs.grammar.Tables as table
 use Rattle.sql_parse.specs.grammar.Tables.{SpellsDefault, SpellsConstraint, SpellsElement, SpellsCreate}
@@ -74,7 +75,7 @@ element_read depth (element.Rule rule) tokens s l rest r =
     (table_rule_read depth rule s.1 s.4 (omega arith) rest plain.0 plain.1))
 
 -- a table
-elements_read : (depth : ℕ) (elements : List Element) (open_at : Span) (listed : List Token) (close_at : Span) (rest : List Token) → Rattle.sql_parse.specs.grammar.Lists.SpellsList SpellsElement elements listed → length listed ≤ depth →
+elements_read : (depth : ℕ) (elements : List Element) (open_at : Span) (listed : List Token) (close_at : Span) (rest : List Token) → SpellsList SpellsElement elements listed → length listed ≤ depth →
     read_elements depth (sign Open open_at ∷ listed ++ (sign Close close_at ∷ rest)) ≡ found elements rest
 unfolding read_elements read_after expect and_then is_open is_close
 elements_read depth elements open_at listed close_at rest s l =

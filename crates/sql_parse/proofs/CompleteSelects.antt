@@ -20,10 +20,11 @@ use Rattle.sql_parse.specs.grammar.Items.{SpellsQuantifier, SpellsItems, SpellsE
 use Rattle.sql_parse.specs.grammar.Selects as c
 use Rattle.sql_parse.specs.grammar.Selects.{alone_or, select_tree, entry_tree, Level, Disjunction, Conjunction, Factor, Primary, SpellsCond, SpellsJoined, SpellsSubquery, SpellsSelect, SpellsWhere, SpellsGroups, SpellsGroup, SpellsJoins}
 use Rattle.sql_parse.specs.reading.Tokens.{Read, found, is_word, is_open, at_head}
+use Rattle.sql_parse.specs.reading.Predicates.{read_predicate}
 use Rattle.sql_parse.specs.reading.Selects.{Parts, placed, read_group, read_where, read_select, read_subquery, read_primary, read_factor, read_conjunction, read_cond}
 use Rattle.sql_parse.proofs.CompleteTokens.{one_found, kind_rank, place_rank, rank, no_comma, no_word}
 use Rattle.sql_parse.proofs.CompleteLists.{Separated, separated_read, separated_last, separated_more}
-use Rattle.sql_parse.proofs.CompletePredicates.{Heads, term_heads, predicate_heads, predicate_read}
+use Rattle.sql_parse.proofs.CompletePredicates.{Heads, begun_heads, predicate_heads, predicate_read}
 use Rattle.sql_parse.proofs.CompleteItems.{MayHave, items_quantified, items_read, entry_read}
 use Rattle.sql_parse.proofs.CompleteFlat.{MayRead, MayReadAll, may_and, may_or, may_first, may_others, may_not, may_exists, may_scalar, may_in}
 use Rattle.sql_parse.proofs.CompleteConditions.{level_rank, read_level, same_word, scalar_read, in_select_read, parenthesized_step, exists_step, predicate_primary, plain_step, negation_step, conjunction_step, disjunction_step}
@@ -63,17 +64,10 @@ unfolding Heads at_head is_word
 primary_head tree tokens (c.parenthesized open_at own close_at whole s) rest = rw whole refl
 primary_head tree tokens (c.exists select exists_at inner e whole s) rest = rw whole refl
 primary_head tree tokens (c.scalar op left select own op_at inner e whole s t u) rest =
-    rw (whole, append_assoc own (sign (Operator op) op_at ∷ inner) rest) (term_heads left own s (sign (Operator op) op_at ∷ inner ++ rest)).1
+    (begun_heads (sign (Operator op) op_at ∷ inner) whole s rest).1
 primary_head tree tokens (c.in_select term select negated own not_word in_at inner e whole s t u) rest =
-    rw (whole, append_assoc own (not_word ++ word IN in_at ∷ inner) rest) (term_heads term own s ((not_word ++ word IN in_at ∷ inner) ++ rest)).1
+    (begun_heads (not_word ++ word IN in_at ∷ inner) whole s rest).1
 primary_head tree tokens (c.predicate s) rest = (predicate_heads tree tokens s rest).1
-
-scalar_heads : (left : TermTree) (tokens own : List Token) (op : Op) (op_at : Span) (inner : List Token) → tokens ≡ own ++ sign (Operator op) op_at ∷ inner → SpellsTerm left own → (rest : List Token) → Heads (tokens ++ rest)
-scalar_heads left tokens own op op_at inner whole s rest =
-    rw (whole, append_assoc own (sign (Operator op) op_at ∷ inner) rest) (term_heads left own s (sign (Operator op) op_at ∷ inner ++ rest))
-
-in_heads : (term : TermTree) (tokens own tail : List Token) → tokens ≡ own ++ tail → SpellsTerm term own → (rest : List Token) → Heads (tokens ++ rest)
-in_heads term tokens own tail whole s rest = rw (whole, append_assoc own tail rest) (term_heads term own s (tail ++ rest))
 
 -- the reading of each kind of derivation
 abbrev pub ReadsCond : Level → CondTree → List Token → Type 0
@@ -204,13 +198,13 @@ scalar_case tree op left select tokens own op_at inner e whole s t u reads flat 
     let may : MayRead flat (Scalar op left select (span_of tokens)) = rw e at m in
     let full : flat ≡ false = may_scalar flat op left select (span_of tokens) may in
     rw (full, e)
-    (predicate_primary false (read_cond false depth) (tokens ++ rest) (scalar_heads left tokens own op op_at inner whole s rest)
+    (predicate_primary false (read_cond false depth) (tokens ++ rest) (begun_heads (sign (Operator op) op_at ∷ inner) whole s rest)
     ∙ scalar_read (read_subquery false (read_cond false depth)) op left select tokens own op_at inner rest whole s (subquery_open inner (subquery_begins select inner t) rest)
     (reads true depth (inr u) (omega arith) rest))
 
 in_select_begun : (sub : Bool → List Token → Read SelectTree) (term : TermTree) (select : SelectTree) (negated : Bool) (tokens own not_word : List Token) (in_at : Span) (inner rest : List Token) →
     tokens ≡ own ++ (not_word ++ word IN in_at ∷ inner) → SpellsTerm term own → SpellsNot negated not_word → (b : Begins inner) → sub false (inner ++ rest) ≡ found select rest →
-    Rattle.sql_parse.specs.reading.Predicates.read_predicate sub (tokens ++ rest) ≡ found (InSelect term select negated (span_of tokens)) rest
+    read_predicate sub (tokens ++ rest) ≡ found (InSelect term select negated (span_of tokens)) rest
 unfolding Begins
 in_select_begun sub term select negated tokens own not_word in_at inner rest whole s n b e =
     in_select_read sub term select negated tokens own not_word in_at b.0 b.1 rest (whole ∙ ap (λ ts. own ++ (not_word ++ word IN in_at ∷ ts)) b.2) s n (b.3 rest) (rw b.2 at e)
@@ -226,7 +220,7 @@ in_select_case tree term select negated tokens own not_word in_at inner e whole 
     let may : MayRead flat (InSelect term select negated (span_of tokens)) = rw e at m in
     let full : flat ≡ false = may_in flat term select negated (span_of tokens) may in
     rw (full, e)
-    (predicate_primary false (read_cond false depth) (tokens ++ rest) (in_heads term tokens own (not_word ++ word IN in_at ∷ inner) whole s rest)
+    (predicate_primary false (read_cond false depth) (tokens ++ rest) (begun_heads (not_word ++ word IN in_at ∷ inner) whole s rest)
     ∙ in_select_begun (read_subquery false (read_cond false depth)) term select negated tokens own not_word in_at inner rest whole s n (subquery_begins select inner t)
     (reads false depth (inl refl) (omega arith) rest))
 

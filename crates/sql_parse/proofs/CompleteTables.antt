@@ -7,6 +7,7 @@ use Rattle.sql_lex.specs.declared.token.Token.{Token}
 use Rattle.sql_tree.specs.declared.term.NameTree.{NameTree}
 use Rattle.sql_tree.specs.declared.schema.TypeTree.{TypeTree}
 use Rattle.sql_parse.specs.grammar.Words.{word, called, sign, CONSTRAINT, ON, REFERENCES}
+use Rattle.sql_parse.specs.grammar.Lists.{SpellsList}
 use Rattle.sql_parse.specs.grammar.Names.{name_token, SpellsName, SpellsNames}
 use Rattle.sql_parse.specs.grammar.Tables as table
 use Rattle.sql_parse.specs.grammar.Tables.{IsEvent, SpellsType, SpellsDefault, SpellsConstraint, SpellsAction, SpellsActions, SpellsTarget, SpellsReference}
@@ -18,7 +19,7 @@ use Rattle.sql_parse.proofs.CompleteLists.{after_read, Looped, loop_end, loop_mo
 use Rattle.sql_parse.proofs.CompleteTerms.{name_read, number_is_read, value_read}
 
 -- names in parentheses
-listed_names : (names : List NameTree) (listed : List Token) (close_at : Span) (rest : List Token) → Rattle.sql_parse.specs.grammar.Lists.SpellsList SpellsName names listed →
+listed_names : (names : List NameTree) (listed : List Token) (close_at : Span) (rest : List Token) → SpellsList SpellsName names listed →
     read_separated is_comma read_name (listed ++ (sign Close close_at ∷ rest)) ≡ found names (sign Close close_at ∷ rest)
 unfolding rank kind_rank
 listed_names names listed close_at rest s =
@@ -108,25 +109,20 @@ one_name_read name tokens s rest =
     let alone : s.listed ≡ name_token name listed.3.0 ∷ [] = listed.2 ∙ ap (λ ts. listed.0 ++ ts) listed.4 ∙ ap (λ ts. ts ++ []) listed.3.1 in
     rw (s.whole, alone) refl
 
-target_begun : (one : Bool) (target : List NameTree) (tokens : List Token) → at_head is_open tokens ≡ true → one ≡ false → (rest : List Token) → read_names tokens ≡ found target rest →
+one_target : (one : Bool) (target : List NameTree) (tokens rest : List Token) → at_head is_open tokens ≡ true → read_names tokens ≡ found target rest → read_one_name tokens ≡ found target rest →
     read_target one tokens ≡ found target rest
 unfolding read_target
-target_begun one target tokens h f rest e = rw (h, f) e
-
-one_target_begun : (one : Bool) (target : List NameTree) (tokens : List Token) → at_head is_open tokens ≡ true → (rest : List Token) → read_names tokens ≡ found target rest → read_one_name tokens ≡ found target rest →
-    read_target one tokens ≡ found target rest
-unfolding read_target
-one_target_begun true target tokens h rest e f = rw h f
-one_target_begun false target tokens h rest e f = rw h e
+one_target true target tokens rest h e f = rw h f
+one_target false target tokens rest h e f = rw h e
 
 target_read : (one : Bool) (target : List NameTree) (tokens : List Token) → SpellsTarget target tokens → MayTarget one target → (rest : List Token) → at_head is_open rest ≡ false →
     read_target one (tokens ++ rest) ≡ found target rest
 unfolding read_target
 target_read one [] tokens s m rest f = rw (s, f) refl
 target_read one (name ∷ []) tokens s m rest f =
-    one_target_begun one (name ∷ []) (tokens ++ rest) (names_open (name ∷ []) tokens s rest) rest (names_read (name ∷ []) tokens s rest) (one_name_read name tokens s rest)
+    one_target one (name ∷ []) (tokens ++ rest) rest (names_open (name ∷ []) tokens s rest) (names_read (name ∷ []) tokens s rest) (one_name_read name tokens s rest)
 target_read one (name ∷ next ∷ names) tokens s (inl e) rest f =
-    target_begun one (name ∷ next ∷ names) (tokens ++ rest) (names_open (name ∷ next ∷ names) tokens s rest) e rest (names_read (name ∷ next ∷ names) tokens s rest)
+    rw (names_open (name ∷ next ∷ names) tokens s rest, e) (names_read (name ∷ next ∷ names) tokens s rest)
 target_read one (name ∷ next ∷ names) tokens s (inr few) rest f = absurd (omega arith)
 
 actions_open : (tokens : List Token) → SpellsActions tokens → (rest : List Token) → at_head is_open rest ≡ false → at_head is_open (tokens ++ rest) ≡ false

@@ -13,7 +13,7 @@ use Rattle.sql_parse.specs.grammar.Terms as term
 use Rattle.sql_parse.specs.grammar.Terms.{SpellsSigned, SpellsLiteral, SpellsValue, SpellsColumn, SpellsBareColumn, SpellsSum, SpellsTerm}
 use Rattle.sql_parse.specs.reading.Tokens.{Read, found, and_then, is_word, is_dot, is_plus, is_name, at_head, expect, place_before, read_after}
 use Rattle.sql_parse.specs.reading.Terms.{name_from, read_name, number_from, read_number, signed_from, read_signed, literal_from, read_literal, read_value, Named, column_after, read_column, read_bare, term_after, read_term}
-use Rattle.sql_parse.proofs.CompleteTokens.{then_found, place_is, one_found, kind_rank, rank, no_dot, no_plus}
+use Rattle.sql_parse.proofs.CompleteTokens.{place_is, one_found, kind_rank, rank, no_dot, no_plus}
 
 pub name_read : (name : NameTree) (tokens : List Token) → SpellsName name tokens → (rest : List Token) → read_name (tokens ++ rest) ≡ found name rest
 unfolding read_name name_from
