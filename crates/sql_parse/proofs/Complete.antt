@@ -1,5 +1,5 @@
 -- What is in the grammar is read, and so it is read as one tree.
-use Rattle.std.proofs.Common.{◌≡◌, sym, ◌∙◌, List, Option, Some}
+use Rattle.std.proofs.Common.{◌≡◌, List, Option, Some}
 use Rattle.sql_lex.specs.declared.token.Token.{Token}
 use Rattle.sql_tree.specs.declared.schema.CreateTable.{CreateTable}
 use Rattle.sql_tree.specs.declared.select.QueryTree.{QueryTree}

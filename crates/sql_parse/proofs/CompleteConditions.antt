@@ -1,5 +1,5 @@
 -- The steps by which conditions are read whole, each from what its parts read.
-use Rattle.std.proofs.Common.{ℕ, ◌≤◌, ◌≡◌, refl, ap, ◌∙◌, Bool, true, false, nat_eq, List, [], ◌∷◌, ◌++◌, lit≤, arith}
+use Rattle.std.proofs.Common.{ℕ, ◌≡◌, refl, ap, ◌∙◌, Bool, true, false, nat_eq, List, [], ◌∷◌, ◌++◌, lit≤, arith}
 use Rattle.std.proofs.Math.Dec.{eqb_refl}
 use Rattle.std.proofs.lemmas.List.{append_assoc}
 use Rattle.lint_base.specs.declared.place.Span.{Span}
@@ -57,7 +57,7 @@ in_select_read sub tree select negated tokens own not_word in_at open_at inside 
     let tail : List Token = word IN in_at ∷ sign Open open_at ∷ inside in
     let after : List Token = tail ++ rest in
     let split : tokens ++ rest ≡ own ++ (not_word ++ after) =
-        ap (λ ts. ts ++ rest) whole ∙ append_assoc own (not_word ++ tail) rest ∙ ap (λ ts. own ++ ts) (append_assoc not_word tail rest) in
+    ap (λ ts. ts ++ rest) whole ∙ append_assoc own (not_word ++ tail) rest ∙ ap (λ ts. own ++ ts) (append_assoc not_word tail rest) in
     predicate_started sub (tokens ++ rest) tree (not_word ++ after) (rw split (term_read tree own s (not_word ++ after) (not_rank negated not_word n after (lit≤ tt))))
     ∙ negatable_started sub (tokens ++ rest) tree negated not_word IN in_at (sign Open open_at ∷ inside ++ rest) n refl refl
     ∙ rw (h, e, place_is tokens rest) refl

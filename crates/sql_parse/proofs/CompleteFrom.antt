@@ -1,5 +1,5 @@
 -- The steps by which SELECTs are read whole, each from what its parts read.
-use Rattle.std.proofs.Common.{ℕ, suc, ◌+◌, ◌≤◌, ◌≡◌, refl, ap, sym, ◌∙◌, Bool, true, false, List, [], ◌∷◌, ◌++◌, length, Option, Some, None, arith, inl, inr}
+use Rattle.std.proofs.Common.{ℕ, ◌+◌, ◌≤◌, ◌≡◌, refl, ap, sym, ◌∙◌, Bool, true, false, List, [], ◌∷◌, ◌++◌, length, Option, Some, None, arith, inl, inr}
 use Rattle.std.proofs.lemmas.List.{append_assoc, append-nil}
 use Rattle.lint_base.specs.declared.place.Span.{Span}
 use Rattle.sql_lex.specs.declared.token.Sign.TheVariants.{Open, Close, Comma}
@@ -75,8 +75,8 @@ module _ (flat : Bool) (self : List Token → Read CondTree) where
       let entry : EntryTree = entry_tree table alias (Some tree) first in
       let front : List Token = inner_word ++ (word JOIN join_at ∷ own ++ (word ON on_at ∷ condition)) in
       let apart : (ts : List Token) → front ++ ts ≡ inner_word ++ (word JOIN join_at ∷ own ++ (word ON on_at ∷ condition ++ ts)) =
-          λ ts. append_assoc inner_word (word JOIN join_at ∷ own ++ (word ON on_at ∷ condition)) ts
-          ∙ ap (λ us. inner_word ++ word JOIN join_at ∷ us) (append_assoc own (word ON on_at ∷ condition) ts) in
+      λ ts. append_assoc inner_word (word JOIN join_at ∷ own ++ (word ON on_at ∷ condition)) ts
+      ∙ ap (λ us. inner_word ++ word JOIN join_at ∷ us) (append_assoc own (word ON on_at ∷ condition) ts) in
       let part = inner_part first table alias tree inner_word join_at own on_at condition (more ++ rest) w e f in
       rw (← apart more)
       (loop_more (at_head is_join) (read_alone (read_join flat self first)) count (entry ∷ []) others front more rest (some_tokens inner_word join_at (own ++ (word ON on_at ∷ condition)))
@@ -128,7 +128,7 @@ module _ (flat : Bool) (self : List Token → Read CondTree) where
   groups_step entries tokens rest g =
       let counted : 0 + length g.0 ≡ length g.0 = omega arith in
       let others : read_parts (at_head is_comma) next_group (length g.0) (g.3 ++ rest) ≡ found g.1 rest =
-          loop_whole (at_head is_comma) next_group (length g.0) g.1 g.3 rest (rw counted at g.7) in
+      loop_whole (at_head is_comma) next_group (length g.0) g.1 g.3 rest (rw counted at g.7) in
       rw (g.4, g.5, append_assoc g.2 g.3 rest, g.6, others) refl
 
   pub everything_step : (rest : List Token) → at_head (is_word WHERE) rest ≡ false → read_where flat self rest ≡ found None rest
@@ -158,7 +158,7 @@ pub subquery_step : (self : List Token → Read CondTree) (scalar : Bool) (parts
 unfolding read_subquery expect and_then is_open is_close
 subquery_step self scalar parts tokens open_at close_at own rest whole e =
     let split : tokens ++ rest ≡ sign Open open_at ∷ own ++ (sign Close close_at ∷ rest) =
-        ap (λ ts. ts ++ rest) whole ∙ ap (λ ts. sign Open open_at ∷ ts) (append_assoc own (sign Close close_at ∷ []) rest) in
+    ap (λ ts. ts ++ rest) whole ∙ ap (λ ts. sign Open open_at ∷ ts) (append_assoc own (sign Close close_at ∷ []) rest) in
     let opened : read_after is_open (read_select false self scalar) (tokens ++ rest) ≡ found parts (sign Close close_at ∷ rest) =
-        rw split (after_read is_open (read_select false self scalar) (sign Open open_at) (own ++ (sign Close close_at ∷ rest)) parts (sign Close close_at ∷ rest) refl e) in
+    rw split (after_read is_open (read_select false self scalar) (sign Open open_at) (own ++ (sign Close close_at ∷ rest)) parts (sign Close close_at ∷ rest) refl e) in
     rw (opened, place_is tokens rest) refl

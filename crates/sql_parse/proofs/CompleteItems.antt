@@ -1,5 +1,5 @@
 -- What a SELECT begins with, and its entries by themselves, are read whole.
-use Rattle.std.proofs.Common.{ℕ, pos, ◌≤◌, ◌≡◌, refl, ◌∙◌, Bool, true, false, List, [], ◌∷◌, ◌++◌, length, Option, Some, None, lit≤, arith, ◌⊎◌, inl, inr}
+use Rattle.std.proofs.Common.{pos, ◌≤◌, ◌≡◌, refl, ◌∙◌, Bool, false, List, [], ◌∷◌, ◌++◌, length, Option, Some, None, lit≤, arith, ◌⊎◌, inl, inr}
 use Rattle.std.proofs.lemmas.List.{append_assoc}
 use Rattle.lint_base.specs.declared.place.Span.{Span}
 use Rattle.sql_lex.specs.declared.token.Token.{Token}
@@ -15,8 +15,8 @@ use Rattle.sql_parse.specs.grammar.Terms as term
 use Rattle.sql_parse.specs.grammar.Terms.{SpellsBareColumn, SpellsLiteral, SpellsColumn}
 use Rattle.sql_parse.specs.grammar.Items as item
 use Rattle.sql_parse.specs.grammar.Items.{SpellsQuantifier, SpellsItem, SpellsItems, SpellsEntry}
-use Rattle.sql_parse.specs.reading.Tokens.{Read, found, and_then, is_word, is_comma, is_dot, is_star, is_open, is_name, at_head, expect, place_before, read_after, read_separated}
-use Rattle.sql_parse.specs.reading.Terms.{name_from, read_name, read_alias, read_literal}
+use Rattle.sql_parse.specs.reading.Tokens.{found, and_then, is_word, is_dot, is_star, is_open, is_name, at_head, expect, place_before, read_after}
+use Rattle.sql_parse.specs.reading.Terms.{name_from, read_name, read_alias}
 use Rattle.sql_parse.specs.reading.Items.{read_quantifier, item_after, dotted_item, named_item, read_item, read_items, read_entry}
 use Rattle.sql_parse.proofs.CompleteTokens.{place_is, kind_rank, place_rank, rank, no_dot, no_name, no_word}
 use Rattle.sql_parse.proofs.CompleteLists.{list_read}

@@ -1,5 +1,5 @@
 -- Predicates without a subquery are read whole, whatever reads subqueries.
-use Rattle.std.proofs.Common.{ℕ, ◌≤◌, ◌≡◌, refl, ap, sym, ◌∙◌, Bool, true, false, nat_eq, List, [], ◌∷◌, ◌++◌, length, Option, Some, None, lit≤, arith}
+use Rattle.std.proofs.Common.{ℕ, ◌≤◌, ◌≡◌, refl, ap, ◌∙◌, Bool, true, false, nat_eq, List, [], ◌∷◌, ◌++◌, length, Option, Some, None, lit≤, arith}
 use Rattle.std.proofs.lemmas.List.{append_assoc}
 use Rattle.lint_base.specs.declared.place.Span.{Span}
 use Rattle.sql_lex.specs.declared.token.Sign.TheVariants.{Open, Close, Compare as Operator}
@@ -105,7 +105,7 @@ module _ (sub : Bool → List Token → Read SelectTree) where
       let tail : List Token = word IS s.is_at ∷ s.not_word ++ word NULL s.null_at ∷ [] in
       let after : List Token = word IS s.is_at ∷ s.not_word ++ word NULL s.null_at ∷ rest in
       let split : tokens ++ rest ≡ s.own ++ after =
-          ap (λ ts. ts ++ rest) s.whole ∙ append_assoc s.own tail rest ∙ ap (λ ts. s.own ++ word IS s.is_at ∷ ts) (append_assoc s.not_word (word NULL s.null_at ∷ []) rest) in
+      ap (λ ts. ts ++ rest) s.whole ∙ append_assoc s.own tail rest ∙ ap (λ ts. s.own ++ word IS s.is_at ∷ ts) (append_assoc s.not_word (word NULL s.null_at ∷ []) rest) in
       predicate_started sub (tokens ++ rest) s.term after (rw split (term_read s.term s.own s.own_term after (lit≤ tt)))
       ∙ rw (not_read s.negated s.not_word s.negation (word NULL s.null_at ∷ rest) refl, place_is tokens rest, s.tree_is) refl
 
@@ -116,8 +116,8 @@ module _ (sub : Bool → List Token → Read SelectTree) where
       let high : List Token = word AND s.and_at ∷ s.upper ++ rest in
       let after : List Token = word BETWEEN s.between_at ∷ s.lower ++ high in
       let split : tokens ++ rest ≡ s.own ++ (s.not_word ++ after) =
-          ap (λ ts. ts ++ rest) s.whole ∙ append_assoc s.own (s.not_word ++ low) rest ∙ ap (λ ts. s.own ++ ts) (append_assoc s.not_word low rest)
-          ∙ ap (λ ts. s.own ++ (s.not_word ++ word BETWEEN s.between_at ∷ ts)) (append_assoc s.lower (word AND s.and_at ∷ s.upper) rest) in
+      ap (λ ts. ts ++ rest) s.whole ∙ append_assoc s.own (s.not_word ++ low) rest ∙ ap (λ ts. s.own ++ ts) (append_assoc s.not_word low rest)
+      ∙ ap (λ ts. s.own ++ (s.not_word ++ word BETWEEN s.between_at ∷ ts)) (append_assoc s.lower (word AND s.and_at ∷ s.upper) rest) in
       predicate_started sub (tokens ++ rest) s.term (s.not_word ++ after)
       (rw split (term_read s.term s.own s.own_term (s.not_word ++ after) (not_rank s.negated s.not_word s.negation after (lit≤ tt))))
       ∙ negatable_started sub (tokens ++ rest) s.term s.negated s.not_word BETWEEN s.between_at (s.lower ++ high) s.negation refl refl
@@ -130,8 +130,8 @@ module _ (sub : Bool → List Token → Read SelectTree) where
       let list : List Token = word IN s.in_at ∷ sign Open s.open_at ∷ s.listed ++ sign Close s.close_at ∷ [] in
       let after : List Token = word IN s.in_at ∷ sign Open s.open_at ∷ s.listed ++ close in
       let split : tokens ++ rest ≡ s.own ++ (s.not_word ++ after) =
-          ap (λ ts. ts ++ rest) s.whole ∙ append_assoc s.own (s.not_word ++ list) rest ∙ ap (λ ts. s.own ++ ts) (append_assoc s.not_word list rest)
-          ∙ ap (λ ts. s.own ++ (s.not_word ++ word IN s.in_at ∷ sign Open s.open_at ∷ ts)) (append_assoc s.listed (sign Close s.close_at ∷ []) rest) in
+      ap (λ ts. ts ++ rest) s.whole ∙ append_assoc s.own (s.not_word ++ list) rest ∙ ap (λ ts. s.own ++ ts) (append_assoc s.not_word list rest)
+      ∙ ap (λ ts. s.own ++ (s.not_word ++ word IN s.in_at ∷ sign Open s.open_at ∷ ts)) (append_assoc s.listed (sign Close s.close_at ∷ []) rest) in
       predicate_started sub (tokens ++ rest) s.term (s.not_word ++ after)
       (rw split (term_read s.term s.own s.own_term (s.not_word ++ after) (not_rank s.negated s.not_word s.negation after (lit≤ tt))))
       ∙ negatable_started sub (tokens ++ rest) s.term s.negated s.not_word IN s.in_at (sign Open s.open_at ∷ s.listed ++ close) s.negation refl refl

@@ -1,7 +1,6 @@
 -- A query is read whole.
-use Rattle.std.proofs.Common.{ℕ, pos, ◌+◌, ◌≤◌, ◌≡◌, refl, ap, sym, ◌∙◌, Bool, true, false, List, [], ◌∷◌, ◌++◌, length, Option, Some, None, codes, lit≤, arith, inl}
+use Rattle.std.proofs.Common.{pos, ◌+◌, ◌≤◌, ◌≡◌, refl, ap, sym, ◌∙◌, false, List, [], ◌∷◌, ◌++◌, length, Some, codes, lit≤, arith, inl}
 use Rattle.std.proofs.lemmas.List.{append_assoc, append-nil, length-append}
-use Rattle.lint_base.specs.declared.place.Span.{Span}
 use Rattle.sql_lex.specs.declared.token.Kind.{Kind}
 use Rattle.sql_lex.specs.declared.token.Token.{Token}
 use Rattle.sql_tree.specs.declared.term.TermTree.{TermTree}
@@ -9,12 +8,11 @@ use Rattle.sql_tree.specs.declared.select.OrderTree.{OrderTree}
 use Rattle.sql_tree.specs.declared.select.OrderTree.TheVariants.{Place, Column}
 use Rattle.sql_tree.specs.declared.select.QueryTree.{QueryTree}
 use Rattle.sql_tree.specs.declared.select.SelectTree.{SelectTree}
-use Rattle.sql_parse.specs.grammar.Words.{span_of, ORDER}
+use Rattle.sql_parse.specs.grammar.Words.{span_of}
 use Rattle.sql_parse.specs.grammar.Terms.{SpellsBareColumn}
 use Rattle.sql_parse.specs.grammar.Queries as query
 use Rattle.sql_parse.specs.grammar.Queries.{SpellsDirection, SpellsKey, SpellsOrder, SpellsQuery}
-use Rattle.sql_parse.specs.reading.Tokens.{Read, found, and_then, is_word, is_comma, is_name, is_called, at_head, expect, all_read, read_after}
-use Rattle.sql_parse.specs.reading.Terms.{read_bare, read_number}
+use Rattle.sql_parse.specs.reading.Tokens.{found, and_then, is_word, is_name, is_called, at_head, expect, all_read, read_after}
 use Rattle.sql_parse.specs.reading.Selects.{Parts, placed, read_select, read_cond}
 use Rattle.sql_parse.specs.reading.Queries.{is_direction, directed, read_key, read_order, read_query, query_of}
 use Rattle.sql_parse.proofs.CompleteTokens.{kind_rank, place_rank, rank, no_name, not_called}
@@ -86,6 +84,6 @@ query_read tree tokens s =
     let main : ReadsSelect (span_of tokens) tree.select s.own = select_reads (span_of tokens) tree.select s.own s.main in
     let size : length tokens ≡ length s.own + length s.rest = ap length s.whole ∙ length-append s.own s.rest in
     let first : read_select false (read_cond false (length tokens)) false tokens ≡ found main.0 s.rest =
-        ap (read_select false (read_cond false (length tokens)) false) s.whole ∙ main.2 false (length tokens) (inl refl) (omega arith) s.rest (order_rank tree.order s.rest s.order) in
+    ap (read_select false (read_cond false (length tokens)) false) s.whole ∙ main.2 false (length tokens) (inl refl) (omega arith) s.rest (order_rank tree.order s.rest s.order) in
     query_step tokens s.rest main.0 tree.order first (order_read tree.order s.rest s.order)
     ∙ ap (λ (select : SelectTree). let q : QueryTree = record { select = select; order = tree.order } in Some q) (sym main.1)

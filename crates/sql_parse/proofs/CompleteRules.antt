@@ -1,5 +1,5 @@
 -- The rules of a table are read whole.
-use Rattle.std.proofs.Common.{ℕ, suc, ◌+◌, ◌≤◌, ◌≡◌, refl, sym, ap, ◌∙◌, Bool, true, false, List, [], ◌∷◌, ◌++◌, length, codes, lit≤, arith, inl, inr}
+use Rattle.std.proofs.Common.{ℕ, ◌+◌, ◌≤◌, ◌≡◌, refl, sym, ◌∙◌, true, false, List, [], ◌∷◌, ◌++◌, length, codes, lit≤, arith, inl, inr}
 use Rattle.std.proofs.lemmas.List.{append_assoc, length-append}
 use Rattle.lint_base.specs.declared.place.Span.{Span}
 use Rattle.sql_lex.specs.declared.token.Sign.TheVariants.{Open, Close}
@@ -7,15 +7,14 @@ use Rattle.sql_lex.specs.declared.token.Token.{Token}
 use Rattle.sql_tree.specs.declared.term.NameTree.{NameTree}
 use Rattle.sql_tree.specs.declared.select.CondTree.{CondTree}
 use Rattle.sql_tree.specs.declared.schema.RuleTree.{RuleTree}
-use Rattle.sql_tree.specs.declared.schema.RuleTree.TheVariants.{NotNull, Unique, Primary, Check, Foreign}
-use Rattle.sql_parse.specs.grammar.Words.{word, called, sign, CHECK, CONSTRAINT, FOREIGN, NOT, NULL, ON, PRIMARY, REFERENCES, UNIQUE}
+use Rattle.sql_tree.specs.declared.schema.RuleTree.TheVariants.{Check}
+use Rattle.sql_parse.specs.grammar.Words.{word, called, sign, CHECK, CONSTRAINT, NOT, NULL, ON, PRIMARY, REFERENCES, UNIQUE}
 use Rattle.sql_parse.specs.grammar.Names.{SpellsNames}
 use Rattle.sql_parse.specs.grammar.Tables as table
 use Rattle.sql_parse.specs.grammar.Tables.{SpellsConstraint, SpellsReference, SpellsCheck, SpellsColumnRule, SpellsColumnRules, SpellsTableRule}
-use Rattle.sql_parse.specs.reading.Tokens.{Read, found, and_then, is_word, is_open, is_close, is_name, is_called, at_head, expect, read_after}
+use Rattle.sql_parse.specs.reading.Tokens.{found, and_then, is_word, is_open, is_close, is_name, is_called, at_head, expect, read_after}
 use Rattle.sql_parse.specs.reading.Terms.{read_names}
-use Rattle.sql_parse.specs.reading.Selects.{read_cond}
-use Rattle.sql_parse.specs.reading.Tables.{read_constraint, read_reference, foreign_tree, begins_rule, read_check, word_rule, column_rule_from, read_column_rule, read_named_rule, read_rules, read_key_names, table_rule_from, read_table_rule}
+use Rattle.sql_parse.specs.reading.Tables.{read_reference, foreign_tree, begins_rule, read_check, word_rule, column_rule_from, read_column_rule, read_named_rule, read_rules, read_key_names, table_rule_from, read_table_rule}
 use Rattle.sql_parse.proofs.CompleteTokens.{place_rank, rank, no_name, no_open, no_word, not_called}
 use Rattle.sql_parse.proofs.CompleteLists.{after_read, Looped, loop_end, loop_more, loop_whole}
 use Rattle.sql_parse.proofs.CompleteSelects.{cond_read, close_rank}

@@ -1,5 +1,5 @@
 -- Declarations of tables and schemas are read whole.
-use Rattle.std.proofs.Common.{ℕ, suc, ◌+◌, ◌≤◌, ◌≡◌, refl, sym, ap, ◌∙◌, Bool, true, false, List, [], ◌∷◌, ◌++◌, length, codes, Option, Some, lit≤, arith}
+use Rattle.std.proofs.Common.{ℕ, ◌+◌, ◌≤◌, ◌≡◌, refl, sym, Bool, true, false, List, [], ◌∷◌, ◌++◌, length, codes, Some, lit≤, arith}
 use Rattle.std.proofs.lemmas.List.{append_assoc, append-nil, length-append}
 use Rattle.lint_base.specs.declared.place.Span.{Span}
 use Rattle.sql_lex.specs.declared.token.Sign.TheVariants.{Open, Close, Semicolon}
@@ -10,18 +10,18 @@ use Rattle.sql_tree.specs.declared.schema.RuleTree.{RuleTree}
 use Rattle.sql_tree.specs.declared.schema.Element.{Element}
 use Rattle.sql_tree.specs.declared.schema.Element.TheVariants as element
 use Rattle.sql_tree.specs.declared.schema.CreateTable.{CreateTable}
-use Rattle.sql_parse.specs.grammar.Words.{word, sign, CONSTRAINT, CREATE, TABLE}
+use Rattle.sql_parse.specs.grammar.Words.{word, sign, CREATE, TABLE}
 use Rattle.sql_parse.specs.grammar.Lists.{SpellsList}
 use Rattle.sql_parse.specs.grammar.Names.{name_token}
 use Rattle.sql_parse.specs.grammar.Tables as table
 use Rattle.sql_parse.specs.grammar.Tables.{SpellsDefault, SpellsConstraint, SpellsElement, SpellsCreate}
 use Rattle.sql_parse.specs.grammar.Schemas as schema
 use Rattle.sql_parse.specs.grammar.Schemas.{SpellsStatement, SpellsSchema}
-use Rattle.sql_parse.specs.reading.Tokens.{Read, found, and_then, is_word, is_comma, is_open, is_close, is_semicolon, is_name, is_called, at_head, expect, read_after, read_separated, read_parts}
+use Rattle.sql_parse.specs.reading.Tokens.{found, and_then, is_word, is_open, is_close, is_semicolon, is_name, is_called, at_head, expect, read_after}
 use Rattle.sql_parse.specs.reading.Terms.{name_from, read_name}
 use Rattle.sql_parse.specs.reading.Tables.{read_type, read_default, read_constraint, read_rules, read_table_rule, read_declared_column, read_element, read_elements, read_create}
 use Rattle.sql_parse.specs.reading.Schemas.{read_statement, read_next_statement, read_schema, schema_of}
-use Rattle.sql_parse.proofs.CompleteTokens.{one_found, all_found, kind_rank, rank}
+use Rattle.sql_parse.proofs.CompleteTokens.{one_found, all_found, rank}
 use Rattle.sql_parse.proofs.CompleteLists.{after_read, Looped, loop_end, loop_more, loop_whole, list_read}
 use Rattle.sql_parse.proofs.CompleteSelects.{close_rank}
 use Rattle.sql_parse.proofs.CompleteTables.{type_read, default_read, constraint_read}

@@ -21,7 +21,7 @@ use Rattle.sql_parse.specs.grammar.Selects as c
 use Rattle.sql_parse.specs.grammar.Selects.{alone_or, select_tree, entry_tree, Level, Disjunction, Conjunction, Factor, Primary, SpellsCond, SpellsJoined, SpellsSubquery, SpellsSelect, SpellsWhere, SpellsGroups, SpellsGroup, SpellsJoins}
 use Rattle.sql_parse.specs.reading.Tokens.{Read, found, is_word, is_open, at_head}
 use Rattle.sql_parse.specs.reading.Predicates.{read_predicate}
-use Rattle.sql_parse.specs.reading.Selects.{Parts, placed, read_group, read_where, read_select, read_subquery, read_primary, read_factor, read_conjunction, read_cond}
+use Rattle.sql_parse.specs.reading.Selects.{Parts, placed, read_group, read_where, read_select, read_subquery, read_factor, read_conjunction, read_cond}
 use Rattle.sql_parse.proofs.CompleteTokens.{one_found, kind_rank, place_rank, rank, no_comma, no_word}
 use Rattle.sql_parse.proofs.CompleteLists.{Separated, separated_read, separated_last, separated_more}
 use Rattle.sql_parse.proofs.CompletePredicates.{Heads, begun_heads, predicate_heads, predicate_read}
@@ -418,6 +418,6 @@ one_select span tokens left right l r =
     let second : ReadsSelect span right tokens = select_reads span right tokens r in
     let depth : ℕ = length tokens in
     let same : first.0 ≡ second.0 =
-        one_found first.0 second.0 [] (read_select false (read_cond false depth) false (tokens ++ []))
-        (first.2 false depth (inl refl) (omega arith) [] (lit≤ tt)) (second.2 false depth (inl refl) (omega arith) [] (lit≤ tt)) in
+    one_found first.0 second.0 [] (read_select false (read_cond false depth) false (tokens ++ []))
+    (first.2 false depth (inl refl) (omega arith) [] (lit≤ tt)) (second.2 false depth (inl refl) (omega arith) [] (lit≤ tt)) in
     first.1 ∙ ap (λ (parts : Parts). placed parts span) same ∙ sym second.1

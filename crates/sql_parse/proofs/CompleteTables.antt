@@ -1,17 +1,17 @@
 -- The parts of a declaration of a table, but for its rules, are read whole.
-use Rattle.std.proofs.Common.{ℕ, suc, ◌+◌, ◌≤◌, ◌≡◌, refl, ap, ◌∙◌, Bool, true, false, List, [], ◌∷◌, ◌++◌, length, codes, lit≤, arith, ◌⊎◌, inl, inr}
+use Rattle.std.proofs.Common.{ℕ, ◌+◌, ◌≤◌, ◌≡◌, refl, ap, ◌∙◌, Bool, true, false, List, [], ◌∷◌, ◌++◌, length, codes, lit≤, arith, ◌⊎◌, inl, inr}
 use Rattle.std.proofs.lemmas.List.{append_assoc}
 use Rattle.lint_base.specs.declared.place.Span.{Span}
 use Rattle.sql_lex.specs.declared.token.Sign.TheVariants.{Close}
 use Rattle.sql_lex.specs.declared.token.Token.{Token}
 use Rattle.sql_tree.specs.declared.term.NameTree.{NameTree}
 use Rattle.sql_tree.specs.declared.schema.TypeTree.{TypeTree}
-use Rattle.sql_parse.specs.grammar.Words.{word, called, sign, CONSTRAINT, ON, REFERENCES}
+use Rattle.sql_parse.specs.grammar.Words.{word, called, sign, CONSTRAINT, ON}
 use Rattle.sql_parse.specs.grammar.Lists.{SpellsList}
 use Rattle.sql_parse.specs.grammar.Names.{name_token, SpellsName, SpellsNames}
 use Rattle.sql_parse.specs.grammar.Tables as table
 use Rattle.sql_parse.specs.grammar.Tables.{IsEvent, SpellsType, SpellsDefault, SpellsConstraint, SpellsAction, SpellsActions, SpellsTarget, SpellsReference}
-use Rattle.sql_parse.specs.reading.Tokens.{Read, found, and_then, is_word, is_comma, is_open, is_close, is_called, at_head, expect, read_after, read_separated}
+use Rattle.sql_parse.specs.reading.Tokens.{found, and_then, is_word, is_comma, is_open, is_close, is_called, at_head, expect, read_after, read_separated}
 use Rattle.sql_parse.specs.reading.Terms.{name_from, read_name, read_names}
 use Rattle.sql_parse.specs.reading.Tables.{read_length, character_rest, is_character, is_integer, type_from, read_type, read_default, read_constraint, is_event, is_plain_action, is_set_value, action_from, read_action, read_event, read_actions, read_one_name, read_target, read_reference}
 use Rattle.sql_parse.proofs.CompleteTokens.{kind_rank, rank}
@@ -79,7 +79,7 @@ event_read : (count : ℕ) (event : List ℕ) (on_at event_at : Span) (own rest 
 unfolding read_event and_then is_word
 event_read count event on_at event_at own rest i s =
     let acted : read_after is_event read_action (called event event_at ∷ own ++ rest) ≡ found false rest =
-        after_read is_event read_action (called event event_at) (own ++ rest) false rest (event_is event event_at i) (action_read own s rest) in
+    after_read is_event read_action (called event event_at) (own ++ rest) false rest (event_is event event_at i) (action_read own s rest) in
     rw (after_read (is_word ON) (read_after is_event read_action) (word ON on_at) (called event event_at ∷ own ++ rest) false rest refl acted) refl
 
 actions_loop : (tokens : List Token) → SpellsActions tokens → (rest : List Token) → at_head (is_word ON) rest ≡ false → (count : ℕ) → Looped (at_head (is_word ON)) read_event count [] tokens rest

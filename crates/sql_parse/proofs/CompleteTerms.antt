@@ -1,5 +1,5 @@
 -- Names, values, columns and terms are read whole.
-use Rattle.std.proofs.Common.{ℕ, ℤ, pos, neg_ℤ, int_le, ◌≤◌, ◌≡◌, refl, sym, ap, ◌∙◌, true, false, List, [], ◌∷◌, ◌++◌, Option, Some, None, lit≤, arith}
+use Rattle.std.proofs.Common.{ℕ, ℤ, pos, int_le, ◌≤◌, ◌≡◌, refl, ap, ◌∙◌, true, false, List, [], ◌∷◌, ◌++◌, Option, Some, None, lit≤, arith}
 use Rattle.std.proofs.lemmas.Bool.{le-leb}
 use Rattle.std.proofs.lemmas.List.{append_assoc}
 use Rattle.lint_base.specs.declared.place.Span.{Span}
@@ -11,7 +11,7 @@ use Rattle.sql_parse.specs.grammar.Words.{number, span_of, NULL}
 use Rattle.sql_parse.specs.grammar.Names.{SpellsName}
 use Rattle.sql_parse.specs.grammar.Terms as term
 use Rattle.sql_parse.specs.grammar.Terms.{SpellsSigned, SpellsLiteral, SpellsValue, SpellsColumn, SpellsBareColumn, SpellsSum, SpellsTerm}
-use Rattle.sql_parse.specs.reading.Tokens.{Read, found, and_then, is_word, is_dot, is_plus, is_name, at_head, expect, place_before, read_after}
+use Rattle.sql_parse.specs.reading.Tokens.{found, and_then, is_word, is_dot, is_plus, is_name, at_head, expect, place_before, read_after}
 use Rattle.sql_parse.specs.reading.Terms.{name_from, read_name, number_from, read_number, signed_from, read_signed, literal_from, read_literal, read_value, Named, column_after, read_column, read_bare, term_after, read_term}
 use Rattle.sql_parse.proofs.CompleteTokens.{place_is, one_found, kind_rank, rank, no_dot, no_plus}
 

@@ -1,5 +1,5 @@
 -- What the proofs of completeness stand on: the place of what was read, and which tokens can stand after a part.
-use Rattle.std.proofs.Common.{ℕ, suc, ◌+◌, ◌-◌, ◌≤◌, ◌≡◌, refl, ap, sym, ◌∙◌, Bool, true, false, if◌then◌else◌, nat_eq, List, [], ◌∷◌, ◌++◌, length, take, Option, Some, None, arith}
+use Rattle.std.proofs.Common.{ℕ, suc, ◌-◌, ◌≤◌, ◌≡◌, refl, ap, sym, ◌∙◌, Bool, true, false, if◌then◌else◌, nat_eq, List, [], ◌∷◌, ◌++◌, length, Some, None, arith}
 use Rattle.std.proofs.lemmas.Bool.{eqb-true}
 use Rattle.std.proofs.lemmas.List.{append-nil, length-append}
 use Rattle.std.proofs.Math.Seq.{take-append_seam}
@@ -8,7 +8,7 @@ use Rattle.sql_lex.specs.declared.token.Kind.{Kind}
 use Rattle.sql_lex.specs.declared.token.Kind.TheVariants.{Name, Reserved, Sign}
 use Rattle.sql_lex.specs.declared.token.Token.{Token}
 use Rattle.sql_parse.specs.grammar.Words.{span_of, AND, AS, CHECK, CONSTRAINT, CROSS, INNER, JOIN, NOT, NULL, ON, OR, ORDER, PRIMARY, REFERENCES, UNIQUE, WHERE}
-use Rattle.sql_parse.specs.reading.Tokens.{Read, found, and_then, is_word, is_open, is_comma, is_dot, is_plus, is_name, is_called, at_head, place_before, all_read}
+use Rattle.sql_parse.specs.reading.Tokens.{Read, found, is_word, is_open, is_comma, is_dot, is_plus, is_name, is_called, at_head, place_before, all_read}
 
 -- the place of what was read
 pub place_is : (own rest : List Token) → place_before (own ++ rest) rest ≡ span_of own
