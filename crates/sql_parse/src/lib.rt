@@ -3,12 +3,19 @@
 
 mod conditions_stub;
 mod front;
+mod grammar_laws;
 mod items;
 mod lists;
+mod one_tree;
 mod orders;
 mod predicates;
 mod refusals;
 mod reserved;
+mod schemas;
 mod tables;
 mod terms;
 mod words;
+
+pub use grammar_laws::{grammar_examples, grammar_words_are_reserved};
+pub use one_tree::{one_condition, one_predicate, one_query, one_schema, one_term};
+pub use schemas::parse_schema;
