@@ -23,3 +23,4 @@ pub mod Places
 pub mod Rules
 pub mod Separated
 pub mod Shorter
+pub mod Statements

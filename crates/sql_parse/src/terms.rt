@@ -279,14 +279,3 @@ pub(crate) fn names<'a>(
     let (_, rest) = expect(rest, Mark::Close)?;
     Ok((names, rest))
 }
-
-/// Names in parentheses.
-#[tactic(auto, unfolding(crate::specs::reading::Terms::read_names, crate::specs::reading::Tokens::and_then))]
-pub(crate) fn names<'a>(alloc: Global, tokens: &'a [Token]) -> Result<(Items<NameTree>, &'a [Token]), ParseStop>
-    ensures { Gives (read_names tokens.now) result }
-{
-    let (_, rest) = expect(tokens, Mark::Open)?;
-    let (names, rest) = listed_names(alloc, rest)?;
-    let (_, rest) = expect(rest, Mark::Close)?;
-    Ok((names, rest))
-}
