@@ -1,3 +1,4 @@
 pub mod Shorter
 pub mod SoundTokens
 pub mod SoundTerms
+pub mod SoundItems

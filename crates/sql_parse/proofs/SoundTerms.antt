@@ -113,7 +113,7 @@ column_after_sound : (first : NameTree) (own rest : List Token) → SpellsName f
 unfolding column_after read_after
 column_after_sound first own rest s =
     sound_if (at_head is_dot rest)
-    (λ e. sound_regroup _ _ _ (sound_dot _ (λ at others. sound_last _ (name_sound others) (λ name more left m. (s.0, at, m.0, rw (s.1, m.1) refl)))))
+    (λ e. sound_regroup _ _ _ (sound_dot _ (λ at others w. sound_last _ (name_sound others) (λ name more left m. (s.0, at, m.0, rw (s.1, m.1) refl)))))
     (λ e. sound_found (s.0, append-nil own ∙ s.1))
 
 pub column_sound : (tokens : List Token) → Reads SpellsNamed tokens (read_column tokens)

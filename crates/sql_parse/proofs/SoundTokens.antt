@@ -38,17 +38,22 @@ sound_none = record { reads = tt }
 pub sound_found : {A : Type 0} {So : Finding A} {tokens : List Token} {a : A} → So a [] tokens → Sound So tokens (found a tokens)
 sound_found s = record { reads = ([], refl, s) }
 
-pub sound_then : {A B : Type 0} {So : Finding A} {Then : Finding B} {tokens : List Token} {f : Read A} {k : A → List Token → Read B} →
-    Sound So tokens f → ((a : A) (own left : List Token) → So a own left → Sound (λ b more after. Then b (own ++ more) after) left (k a left)) → Sound Then tokens (and_then f k)
+-- the tokens of what is found come before those left
+pub sound_then_from : {A B : Type 0} {So : Finding A} {Then : Finding B} {tokens : List Token} {f : Read A} {k : A → List Token → Read B} →
+    Sound So tokens f → ((a : A) (own left : List Token) → tokens ≡ own ++ left → So a own left → Sound (λ b more after. Then b (own ++ more) after) left (k a left)) → Sound Then tokens (and_then f k)
 unfolding and_then
-sound_then {f = None} h g = sound_none
-sound_then {A} {B} {So} {Then} {tokens} {f = Some r} {k} h g =
+sound_then_from {f = None} h g = sound_none
+sound_then_from {A} {B} {So} {Then} {tokens} {f = Some r} {k} h g =
     let own = h.reads.0 in
     record {
       reads =
           meets_weaker (λ b after. (more : List Token) × (r.1 ≡ more ++ after) × Then b (own ++ more) after) (λ b after. (all : List Token) × (tokens ≡ all ++ after) × Then b all after)
-          (λ b after s. (own ++ s.0, h.reads.1 ∙ ap (λ rest. own ++ rest) s.1 ∙ sym (append_assoc own s.0 after), s.2)) (k r.0 r.1) (g r.0 own r.1 h.reads.2).reads;
+          (λ b after s. (own ++ s.0, h.reads.1 ∙ ap (λ rest. own ++ rest) s.1 ∙ sym (append_assoc own s.0 after), s.2)) (k r.0 r.1) (g r.0 own r.1 h.reads.1 h.reads.2).reads;
     }
+
+pub sound_then : {A B : Type 0} {So : Finding A} {Then : Finding B} {tokens : List Token} {f : Read A} {k : A → List Token → Read B} →
+    Sound So tokens f → ((a : A) (own left : List Token) → So a own left → Sound (λ b more after. Then b (own ++ more) after) left (k a left)) → Sound Then tokens (and_then f k)
+sound_then h g = sound_then_from h (λ a own left e s. g a own left s)
 
 -- a first token that is read before
 pub sound_first : {A : Type 0} {So : Finding A} (t : Token) {rest : List Token} {f : Read A} → Sound (λ a own left. So a (t ∷ own) left) rest f → Sound So (t ∷ rest) f
@@ -76,7 +81,7 @@ sound_regroup None g k h = h
 sound_regroup (Some r) g k h = h
 
 -- the place of what is found
-place_is : (tokens own left : List Token) → tokens ≡ own ++ left → place_before tokens left ≡ span_of own
+pub place_is : (tokens own left : List Token) → tokens ≡ own ++ left → place_before tokens left ≡ span_of own
 unfolding place_before
 place_is tokens own left e =
     let counted : length tokens - length left ≡ length own = omega (arith, ap length e, length-append own left) in
@@ -91,13 +96,13 @@ sound_placed {A} {So} {tokens} {f} h = record {
 
 -- a first token that is so
 pub sound_token : {A : Type 0} {So : Finding A} (test : Kind → Bool) {k : Token → List Token → Read A} (tokens : List Token) →
-    ((t : Token) (rest : List Token) → test t.kind ≡ true → Sound (λ a own left. So a (t ∷ own) left) rest (k t rest)) → Sound So tokens (and_then (expect test tokens) k)
+    ((t : Token) (rest : List Token) → tokens ≡ t ∷ rest → test t.kind ≡ true → Sound (λ a own left. So a (t ∷ own) left) rest (k t rest)) → Sound So tokens (and_then (expect test tokens) k)
 unfolding expect and_then
 sound_token test [] g = sound_none
 sound_token {A} {So} test {k} (t ∷ rest) g = tested (test t.kind) refl
   where
     tested : (b : Bool) → test t.kind ≡ b → Sound So (t ∷ rest) (and_then (if b then found t rest else None) k)
-    tested true e = sound_first t (g t rest e)
+    tested true e = sound_first t (g t rest refl e)
     tested false e = sound_none
 
 -- what the tests tell
@@ -153,37 +158,38 @@ called_is text _ e = absurd (true≢false (sym e))
 
 -- a first token of this kind
 sound_kind : {A : Type 0} {So : Finding A} {test : Kind → Bool} (k : Token → List Token → Read A) (kind : Kind) → ((other : Kind) → test other ≡ true → other ≡ kind) → (tokens : List Token) →
-    ((at : Span) (rest : List Token) → Sound (λ a own left. So a (record { kind = kind; span = at } ∷ own) left) rest (k (record { kind = kind; span = at }) rest)) →
+    ((at : Span) (rest : List Token) → tokens ≡ record { kind = kind; span = at } ∷ rest → Sound (λ a own left. So a (record { kind = kind; span = at } ∷ own) left) rest (k (record { kind = kind; span = at }) rest)) →
     Sound So tokens (and_then (expect test tokens) k)
-sound_kind {A} {So} {test} k kind is tokens g = sound_token test tokens (λ t rest e. of_kind t.kind t.span rest (is t.kind e))
+sound_kind {A} {So} {test} k kind is tokens g = sound_token test tokens (λ t rest w e. of_kind t.kind t.span rest w (is t.kind e))
   where
-    of_kind : (other : Kind) (at : Span) (rest : List Token) → other ≡ kind → Sound (λ a own left. So a (record { kind = other; span = at } ∷ own) left) rest (k (record { kind = other; span = at }) rest)
-    of_kind other at rest e = rw e (g at rest)
+    of_kind : (other : Kind) (at : Span) (rest : List Token) → tokens ≡ record { kind = other; span = at } ∷ rest → other ≡ kind →
+        Sound (λ a own left. So a (record { kind = other; span = at } ∷ own) left) rest (k (record { kind = other; span = at }) rest)
+    of_kind other at rest w e = rw e (g at rest (rw e at w))
 
 module _ {A : Type 0} {So : Finding A} {tokens : List Token} (k : Token → List Token → Read A) where
   pub sound_word : (place : ℕ) → ((at : Span) (rest : List Token) → Sound (λ a own left. So a (word place at ∷ own) left) rest (k (word place at) rest)) → Sound So tokens (and_then (expect (is_word place) tokens) k)
-  sound_word place g = sound_kind k (Reserved place) (word_is place) tokens g
+  sound_word place g = sound_kind k (Reserved place) (word_is place) tokens (λ at rest w. g at rest)
 
   pub sound_called : (text : List ℕ) → ((at : Span) (rest : List Token) → Sound (λ a own left. So a (called text at ∷ own) left) rest (k (called text at) rest)) → Sound So tokens (and_then (expect (is_called text) tokens) k)
-  sound_called text g = sound_kind k (Name text false) (called_is text) tokens g
+  sound_called text g = sound_kind k (Name text false) (called_is text) tokens (λ at rest w. g at rest)
 
   pub sound_open : ((at : Span) (rest : List Token) → Sound (λ a own left. So a (sign Open at ∷ own) left) rest (k (sign Open at) rest)) → Sound So tokens (and_then (expect is_open tokens) k)
-  sound_open g = sound_kind k (Sign Open) open_is tokens g
+  sound_open g = sound_kind k (Sign Open) open_is tokens (λ at rest w. g at rest)
 
   pub sound_close : ((at : Span) (rest : List Token) → Sound (λ a own left. So a (sign Close at ∷ own) left) rest (k (sign Close at) rest)) → Sound So tokens (and_then (expect is_close tokens) k)
-  sound_close g = sound_kind k (Sign Close) close_is tokens g
+  sound_close g = sound_kind k (Sign Close) close_is tokens (λ at rest w. g at rest)
 
   pub sound_comma : ((at : Span) (rest : List Token) → Sound (λ a own left. So a (sign Comma at ∷ own) left) rest (k (sign Comma at) rest)) → Sound So tokens (and_then (expect is_comma tokens) k)
-  sound_comma g = sound_kind k (Sign Comma) comma_is tokens g
+  sound_comma g = sound_kind k (Sign Comma) comma_is tokens (λ at rest w. g at rest)
 
-  pub sound_dot : ((at : Span) (rest : List Token) → Sound (λ a own left. So a (sign Dot at ∷ own) left) rest (k (sign Dot at) rest)) → Sound So tokens (and_then (expect is_dot tokens) k)
+  pub sound_dot : ((at : Span) (rest : List Token) → tokens ≡ sign Dot at ∷ rest → Sound (λ a own left. So a (sign Dot at ∷ own) left) rest (k (sign Dot at) rest)) → Sound So tokens (and_then (expect is_dot tokens) k)
   sound_dot g = sound_kind k (Sign Dot) dot_is tokens g
 
   pub sound_semicolon : ((at : Span) (rest : List Token) → Sound (λ a own left. So a (sign Semicolon at ∷ own) left) rest (k (sign Semicolon at) rest)) → Sound So tokens (and_then (expect is_semicolon tokens) k)
-  sound_semicolon g = sound_kind k (Sign Semicolon) semicolon_is tokens g
+  sound_semicolon g = sound_kind k (Sign Semicolon) semicolon_is tokens (λ at rest w. g at rest)
 
   pub sound_star : ((at : Span) (rest : List Token) → Sound (λ a own left. So a (sign Star at ∷ own) left) rest (k (sign Star at) rest)) → Sound So tokens (and_then (expect is_star tokens) k)
-  sound_star g = sound_kind k (Sign Star) star_is tokens g
+  sound_star g = sound_kind k (Sign Star) star_is tokens (λ at rest w. g at rest)
 
 -- parts as long as the tokens begin so
 module _ {A : Type 0} (begins : List Token → Bool) (read : ℕ → List Token → Read (List A)) (Part All : ℕ → List A → List Token → Type 0)
@@ -213,7 +219,7 @@ module _ {A : Type 0} (test : Kind → Bool) (kind : Kind) (is : (other : Kind) 
 
   joint_sound : (count : ℕ) (tokens : List Token) → Reads Joint tokens (read_alone (read_after test read) count tokens)
   unfolding read_alone read_after
-  joint_sound count tokens = sound_regroup _ _ _ (sound_kind _ kind is tokens (λ at rest. sound_last _ (each rest) (λ part own left s. (at, part, own, refl, refl, s))))
+  joint_sound count tokens = sound_regroup _ _ _ (sound_kind _ kind is tokens (λ at rest w. sound_last _ (each rest) (λ part own left s. (at, part, own, refl, refl, s))))
 
   one_more : (count : ℕ) (part parts : List A) (own rest : List Token) → Joint part own → More parts rest → More (part ++ parts) (own ++ rest)
   one_more count part parts own rest j m = rw (j.3, j.4) (more j.0 j.1 parts j.2 rest j.5 m)
