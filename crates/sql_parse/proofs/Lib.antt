@@ -2,3 +2,5 @@ pub mod Shorter
 pub mod SoundTokens
 pub mod SoundTerms
 pub mod SoundItems
+pub mod SoundFlat
+pub mod SoundPredicates

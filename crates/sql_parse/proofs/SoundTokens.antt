@@ -105,6 +105,17 @@ sound_token {A} {So} test {k} (t ∷ rest) g = tested (test t.kind) refl
     tested true e = sound_first t (g t rest refl e)
     tested false e = sound_none
 
+-- a first token that is so, where all is read again
+pub sound_again : {A : Type 0} {So : Finding A} (test : Kind → Bool) {k : Token → List Token → Read A} (tokens : List Token) →
+    ((t : Token) (rest : List Token) → tokens ≡ t ∷ rest → test t.kind ≡ true → Sound So tokens (k t rest)) → Sound So tokens (and_then (expect test tokens) k)
+unfolding expect and_then
+sound_again test [] g = sound_none
+sound_again {A} {So} test {k} (t ∷ rest) g = tested (test t.kind) refl
+  where
+    tested : (b : Bool) → test t.kind ≡ b → Sound So (t ∷ rest) (and_then (if b then found t rest else None) k)
+    tested true e = g t rest refl e
+    tested false e = sound_none
+
 -- what the tests tell
 pub word_is : (place : ℕ) (k : Kind) → is_word place k ≡ true → k ≡ Reserved place
 unfolding is_word
