@@ -4,3 +4,4 @@ pub mod SoundTerms
 pub mod SoundItems
 pub mod SoundFlat
 pub mod SoundPredicates
+pub mod SoundSelects
