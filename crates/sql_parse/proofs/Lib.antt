@@ -5,3 +5,4 @@ pub mod SoundItems
 pub mod SoundFlat
 pub mod SoundPredicates
 pub mod SoundSelects
+pub mod SoundQueries

@@ -44,7 +44,7 @@ more_groups count part parts own rest s others first group before e g =
     rw s.2 (select.more_groups group (part ++ parts) before s.0 (s.1 ++ rest) refl refl g (rw (← e) (others count part s.1 refl s.3)))
 
 -- a SELECT, whatever its place
-abbrev SpellsParts : Bool → Parts → List Token → Type 0
+abbrev pub SpellsParts : Bool → Parts → List Token → Type 0
 SpellsParts scalar parts own = ((span : Span) → SpellsSelect span (placed parts span) own) × (scalar ≡ true → parts.0 ≡ None)
 
 -- parts of a level with a word between them
