@@ -6,3 +6,4 @@ pub mod SoundFlat
 pub mod SoundPredicates
 pub mod SoundSelects
 pub mod SoundQueries
+pub mod SoundTypes

@@ -80,6 +80,14 @@ unfolding and_then
 sound_regroup None g k h = h
 sound_regroup (Some r) g k h = h
 
+-- the tokens begin with those of what is found
+pub sound_from : {A : Type 0} {So : Finding A} {tokens : List Token} {f : Read A} → Sound (λ a own left. tokens ≡ own ++ left → So a own left) tokens f → Sound So tokens f
+sound_from {A} {So} {tokens} {f} h = record {
+  reads =
+      meets_weaker (λ a left. (own : List Token) × (tokens ≡ own ++ left) × (tokens ≡ own ++ left → So a own left)) (λ a left. (own : List Token) × (tokens ≡ own ++ left) × So a own left)
+      (λ a left s. (s.0, s.1, s.2 s.1)) f h.reads;
+}
+
 -- the place of what is found
 pub place_is : (tokens own left : List Token) → tokens ≡ own ++ left → place_before tokens left ≡ span_of own
 unfolding place_before
@@ -88,11 +96,7 @@ place_is tokens own left e =
     rw (counted, e, take-append_seam own left) refl
 
 pub sound_placed : {A : Type 0} {So : Finding A} {tokens : List Token} {f : Read A} → Sound (λ a own left. place_before tokens left ≡ span_of own → So a own left) tokens f → Sound So tokens f
-sound_placed {A} {So} {tokens} {f} h = record {
-  reads =
-      meets_weaker (λ a left. (own : List Token) × (tokens ≡ own ++ left) × (place_before tokens left ≡ span_of own → So a own left)) (λ a left. (own : List Token) × (tokens ≡ own ++ left) × So a own left)
-      (λ a left s. (s.0, s.1, s.2 (place_is tokens s.0 left s.1))) f h.reads;
-}
+sound_placed {tokens = tokens} h = sound_from (sound_weaker (λ a own left s w. s (place_is tokens own left w)) h)
 
 -- a first token that is so
 pub sound_token : {A : Type 0} {So : Finding A} (test : Kind → Bool) {k : Token → List Token → Read A} (tokens : List Token) →
