@@ -7,3 +7,4 @@ pub mod SoundPredicates
 pub mod SoundSelects
 pub mod SoundQueries
 pub mod SoundTypes
+pub mod SoundReferences
