@@ -8,3 +8,5 @@ pub mod SoundSelects
 pub mod SoundQueries
 pub mod SoundTypes
 pub mod SoundReferences
+pub mod SoundTables
+pub mod Sound

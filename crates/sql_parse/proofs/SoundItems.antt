@@ -1,22 +1,19 @@
 -- What is read at the beginning of a SELECT, and as an entry of FROM, is in the grammar.
-use Rattle.std.proofs.Common.{pos, ◌≡◌, ◌⊎◌, refl, ap, sym, ◌∙◌, Bool, true, false, if◌then◌else◌, List, [], ◌∷◌, ◌++◌, Option, Some, None, append_assoc, append-nil, inl, inr}
+use Rattle.std.proofs.Common.{pos, ◌≡◌, ◌⊎◌, refl, ap, sym, ◌∙◌, Bool, true, List, ◌∷◌, ◌++◌, Option, Some, None, append_assoc, inl, inr}
 use Rattle.lint_base.specs.declared.place.Span.{Span}
-use Rattle.sql_lex.specs.declared.token.Sign.TheVariants.{Dot, Star as Asterisk}
+use Rattle.sql_lex.specs.declared.token.Sign.TheVariants.{Dot}
 use Rattle.sql_lex.specs.declared.token.Token.{Token}
 use Rattle.sql_tree.specs.declared.term.NameTree.{NameTree}
 use Rattle.sql_tree.specs.declared.term.TermTree.{TermTree}
 use Rattle.sql_tree.specs.declared.term.TermTree.TheVariants.{Column}
-use Rattle.sql_tree.specs.declared.select.ItemTree.{ItemTree}
-use Rattle.sql_tree.specs.declared.select.ItemTree.TheVariants.{Star, StarOf, Term}
-use Rattle.sql_parse.specs.grammar.Words.{word, sign, span_of, ALL, DISTINCT}
-use Rattle.sql_parse.specs.grammar.Names.{SpellsName, SpellsAlias}
+use Rattle.sql_parse.specs.grammar.Words.{sign, span_of, ALL, DISTINCT}
+use Rattle.sql_parse.specs.grammar.Names.{SpellsName}
 use Rattle.sql_parse.specs.grammar.Terms.{SpellsBareColumn, SpellsLiteral}
 use Rattle.sql_parse.specs.grammar.Items as item
 use Rattle.sql_parse.specs.grammar.Items.{SpellsQuantifier, SpellsItem, SpellsItems, SpellsEntry}
-use Rattle.sql_parse.specs.reading.Tokens.{Read, found, and_then, is_word, is_dot, is_star, is_name, at_head, place_before}
-use Rattle.sql_parse.specs.reading.Terms.{read_name}
+use Rattle.sql_parse.specs.reading.Tokens.{is_word, is_dot, is_star, is_name, at_head, place_before}
 use Rattle.sql_parse.specs.reading.Items.{Entry, read_quantifier, item_after, dotted_item, named_item, read_item, read_items, read_entry}
-use Rattle.sql_parse.proofs.SoundTokens.{Finding, Sound, Reads, sound_weaker, sound_none, sound_found, sound_then, sound_then_from, sound_last, place_is, sound_if, sound_word, sound_dot, sound_star}
+use Rattle.sql_parse.proofs.SoundTokens.{Sound, Reads, sound_weaker, sound_none, sound_found, sound_then, sound_then_from, sound_last, place_is, sound_if, sound_word, sound_dot, sound_star}
 use Rattle.sql_parse.proofs.SoundTerms.{list_sound, name_sound, alias_sound, literal_sound}
 
 -- of a scalar subquery nothing is distinct

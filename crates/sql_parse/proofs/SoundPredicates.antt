@@ -1,8 +1,8 @@
 -- The predicates that are read are in the grammar, over a reading of subqueries that is so.
-use Rattle.std.proofs.Common.{◌≡◌, refl, ap, sym, ◌∙◌, Bool, true, false, if◌then◌else◌, List, [], ◌∷◌, ◌++◌, Option, Some, None, append_assoc, append-nil}
+use Rattle.std.proofs.Common.{◌≡◌, refl, ap, Bool, true, false, if◌then◌else◌, List, [], ◌∷◌, ◌++◌, None}
 use Rattle.lint_base.specs.declared.place.Span.{Span}
 use Rattle.lint_tables.specs.declared.op.Op.{Op}
-use Rattle.sql_lex.specs.declared.token.Sign.TheVariants.{Open, Close, Compare as Operator}
+use Rattle.sql_lex.specs.declared.token.Sign.TheVariants.{Open, Compare as Operator}
 use Rattle.sql_lex.specs.declared.token.Kind.{Kind}
 use Rattle.sql_lex.specs.declared.token.Kind.TheVariants as kind
 use Rattle.sql_lex.specs.declared.token.Token.{Token}
@@ -17,10 +17,10 @@ use Rattle.sql_parse.specs.grammar.Predicates.{SpellsNot}
 use Rattle.sql_parse.specs.grammar.Selects as select
 use Rattle.sql_parse.specs.grammar.Selects.{Level, Primary, SpellsCond, SpellsSubquery}
 use Rattle.sql_parse.specs.grammar.Tables.{is_flat}
-use Rattle.sql_parse.specs.reading.Tokens.{Read, found, and_then, is_word, is_open, at_head, place_before}
+use Rattle.sql_parse.specs.reading.Tokens.{Read, and_then, is_word, is_open, at_head, place_before}
 use Rattle.sql_parse.specs.reading.Terms.{read_value}
 use Rattle.sql_parse.specs.reading.Predicates.{read_not, comparison_rest, null_rest, between_rest, values_rest, list_or_select, in_rest, negatable, predicate_from, predicate_rest, read_predicate}
-use Rattle.sql_parse.proofs.SoundTokens.{Finding, Sound, Reads, sound_none, sound_found, sound_first, sound_then, sound_last, sound_placed, sound_if, sound_again, word_is, open_is, sound_word, sound_close}
+use Rattle.sql_parse.proofs.SoundTokens.{Sound, Reads, sound_none, sound_found, sound_first, sound_then, sound_last, sound_placed, sound_if, sound_again, word_is, open_is, sound_word, sound_close}
 use Rattle.sql_parse.proofs.SoundTerms.{list_sound, value_sound, term_sound}
 use Rattle.sql_parse.proofs.SoundFlat.{flat_compare, flat_is_null, flat_between, flat_in_list}
 

@@ -1,20 +1,19 @@
 -- What is read as a query is in the grammar.
-use Rattle.std.proofs.Common.{pos, ◌≡◌, ◌⊎◌, refl, ap, sym, Bool, true, false, if◌then◌else◌, List, [], ◌∷◌, ◌++◌, length, Option, Some, codes, inl, inr}
+use Rattle.std.proofs.Common.{◌≡◌, ◌⊎◌, refl, ap, true, false, List, [], ◌∷◌, length, codes, inl, inr}
 use Rattle.lint_base.specs.declared.place.Span.{Span}
 use Rattle.sql_lex.specs.declared.token.Kind.{Kind}
 use Rattle.sql_lex.specs.declared.token.Token.{Token}
 use Rattle.sql_tree.specs.declared.select.OrderTree.{OrderTree}
 use Rattle.sql_tree.specs.declared.select.OrderTree.TheVariants.{Place, Column}
-use Rattle.sql_tree.specs.declared.select.QueryTree.{QueryTree}
-use Rattle.sql_parse.specs.grammar.Words.{word, called, span_of, BY, ORDER}
+use Rattle.sql_parse.specs.grammar.Words.{span_of, BY, ORDER}
 use Rattle.sql_parse.specs.grammar.Queries as query
 use Rattle.sql_parse.specs.grammar.Queries.{SpellsDirection, SpellsKey, SpellsOrder, SpellsQuery}
-use Rattle.sql_parse.specs.reading.Tokens.{found, and_then, is_word, is_name, is_called, at_head, read_after}
-use Rattle.sql_parse.specs.reading.Selects.{placed, read_cond}
+use Rattle.sql_parse.specs.reading.Tokens.{is_word, is_name, is_called, at_head, read_after}
+use Rattle.sql_parse.specs.reading.Selects.{read_cond}
 use Rattle.sql_parse.specs.reading.Queries.{is_direction, directed, read_key, read_order, read_query}
-use Rattle.sql_parse.proofs.SoundTokens.{Sound, Reads, sound_weaker, sound_found, sound_then, sound_last, sound_regroup, sound_if, sound_token, sound_word, called_is, either}
+use Rattle.sql_parse.proofs.SoundTokens.{Reads, sound_weaker, sound_found, sound_then, sound_last, sound_if, sound_token, sound_word, called_is, either}
 use Rattle.sql_parse.proofs.SoundTerms.{list_sound, number_sound, bare_sound}
-use Rattle.sql_parse.proofs.SoundSelects.{SpellsParts, select_sound, cond_sound}
+use Rattle.sql_parse.proofs.SoundSelects.{select_sound, cond_sound}
 
 -- ASC or DESC
 direction_is : (k : Kind) (at : Span) → is_direction k ≡ true → SpellsDirection (record { kind = k; span = at } ∷ [])

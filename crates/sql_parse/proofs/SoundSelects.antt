@@ -1,20 +1,19 @@
 -- The conditions and SELECTs that are read are in the grammar.
-use Rattle.std.proofs.Common.{ℕ, zero, suc, ◌+◌, ◌≡◌, ◌⊎◌, refl, ap, sym, ◌∙◌, Bool, true, false, if◌then◌else◌, List, [], ◌∷◌, ◌++◌, length, Option, Some, None, append_assoc, append-nil, inl, inr, arith}
+use Rattle.std.proofs.Common.{ℕ, zero, suc, ◌+◌, ◌≡◌, refl, ap, ◌∙◌, Bool, true, false, List, [], ◌∷◌, ◌++◌, length, None, append_assoc, append-nil, inl, inr, arith}
 use Rattle.lint_base.specs.declared.place.Span.{Span}
 use Rattle.sql_lex.specs.declared.token.Sign.TheVariants.{Open, Close, Comma}
 use Rattle.sql_lex.specs.declared.token.Kind.TheVariants as kind
 use Rattle.sql_lex.specs.declared.token.Token.{Token}
 use Rattle.sql_tree.specs.declared.select.EntryTree.{EntryTree}
-use Rattle.sql_tree.specs.declared.select.SelectTree.{SelectTree, out-SelectTree, out-roll-SelectTree}
+use Rattle.sql_tree.specs.declared.select.SelectTree.{out-roll-SelectTree}
 use Rattle.sql_tree.specs.declared.select.CondTree.{CondTree}
-use Rattle.sql_tree.specs.declared.select.CondTree.TheVariants.{And, Or, Not, Exists}
+use Rattle.sql_tree.specs.declared.select.CondTree.TheVariants.{And, Or, Exists}
 use Rattle.sql_parse.specs.grammar.Words.{word, sign, span_of, MayBe, AND, CROSS, EXISTS, FROM, INNER, JOIN, NOT, ON, OR, SELECT, WHERE}
 use Rattle.sql_parse.specs.grammar.Selects as select
 use Rattle.sql_parse.specs.grammar.Selects.{Level, Disjunction, Conjunction, Factor, Primary, entry_tree, SpellsCond, SpellsJoined, SpellsSubquery, SpellsSelect, SpellsWhere, SpellsGroups, SpellsGroup, SpellsJoins}
-use Rattle.sql_parse.specs.grammar.Tables.{is_flat}
-use Rattle.sql_parse.specs.reading.Tokens.{Read, found, and_then, is_word, is_comma, is_open, at_head, expect, place_before, read_alone, read_after, read_separated}
+use Rattle.sql_parse.specs.reading.Tokens.{Read, is_word, is_comma, is_open, at_head, read_alone, read_after, read_separated}
 use Rattle.sql_parse.specs.reading.Selects.{Parts, placed, is_join, without_inner, cross_joined, inner_joined, read_join, read_group, read_groups, read_where, read_select, read_subquery, read_parenthesized, read_exists, read_primary, read_factor, read_conjunction, read_disjunction, read_cond}
-use Rattle.sql_parse.proofs.SoundTokens.{Finding, Sound, Reads, sound_weaker, sound_none, sound_found, sound_then, sound_last, sound_regroup, sound_placed, sound_if, word_is, sound_word, sound_open, sound_close, sound_comma, parts_sound, separated_sound}
+use Rattle.sql_parse.proofs.SoundTokens.{Reads, sound_weaker, sound_none, sound_found, sound_then, sound_last, sound_regroup, sound_placed, sound_if, word_is, sound_word, sound_open, sound_close, sound_comma, parts_sound, separated_sound}
 use Rattle.sql_parse.proofs.SoundItems.{quantifier_sound, items_sound, entry_sound}
 use Rattle.sql_parse.proofs.SoundFlat.{AllFlat, flat_not, flat_and, flat_or, more_flat, flat_alone}
 use Rattle.sql_parse.proofs.SoundPredicates.{Condition, Subquery, predicate_sound}

@@ -1,22 +1,20 @@
 -- The names and terms that are read are in the grammar.
-use Rattle.std.proofs.Common.{ℕ, ℤ, pos, negsuc, neg_ℤ, int_le, ◌≡◌, ◌⊎◌, refl, ap, sym, ◌∙◌, Bool, true, false, if◌then◌else◌, List, [], ◌∷◌, ◌++◌, length, Option, Some, None, append_assoc, append-nil, true≢false, inl, inr}
+use Rattle.std.proofs.Common.{ℕ, ℤ, pos, negsuc, neg_ℤ, int_le, ◌≡◌, ◌⊎◌, refl, ap, sym, ◌∙◌, true, List, [], ◌∷◌, ◌++◌, Some, append-nil, true≢false, inl, inr}
 use Rattle.lint_base.specs.declared.place.Span.{Span}
-use Rattle.sql_lex.specs.declared.token.Sign.{Sign}
-use Rattle.sql_lex.specs.declared.token.Sign.TheVariants.{Open, Close, Comma, Dot, Plus, Minus}
+use Rattle.sql_lex.specs.declared.token.Sign.TheVariants.{Comma, Plus, Minus}
 use Rattle.sql_lex.specs.declared.token.Kind.{Kind}
 use Rattle.sql_lex.specs.declared.token.Kind.TheVariants as kind
 use Rattle.sql_lex.specs.declared.token.Token.{Token}
 use Rattle.sql_tree.specs.declared.term.NameTree.{NameTree}
-use Rattle.sql_tree.specs.declared.term.TermTree.{TermTree}
-use Rattle.sql_tree.specs.declared.term.TermTree.TheVariants.{Column, Number, Text, Null}
+use Rattle.sql_tree.specs.declared.term.TermTree.TheVariants.{Column, Number}
 use Rattle.sql_parse.specs.grammar.Words.{word, sign, number, text, span_of, AS, NULL}
 use Rattle.sql_parse.specs.grammar.Lists.{SpellsMore, SpellsList}
-use Rattle.sql_parse.specs.grammar.Names.{name_token, SpellsName, SpellsNames, SpellsAlias}
+use Rattle.sql_parse.specs.grammar.Names.{SpellsName, SpellsNames, SpellsAlias}
 use Rattle.sql_parse.specs.grammar.Terms as term
 use Rattle.sql_parse.specs.grammar.Terms.{SpellsSigned, SpellsLiteral, SpellsValue, SpellsColumn, SpellsBareColumn, SpellsSum, SpellsTerm}
-use Rattle.sql_parse.specs.reading.Tokens.{Read, found, and_then, is_word, is_comma, is_dot, is_plus, is_name, at_head, read_after, read_separated, place_before}
+use Rattle.sql_parse.specs.reading.Tokens.{Read, is_word, is_comma, is_dot, is_plus, is_name, at_head, read_after, read_separated, place_before}
 use Rattle.sql_parse.specs.reading.Terms.{Named, read_name, name_from, read_names, read_alias, number_from, read_number, signed_from, read_signed, literal_from, read_literal, read_value, column_after, read_column, read_bare, term_after, read_term}
-use Rattle.sql_parse.proofs.SoundTokens.{Finding, Sound, Reads, sound_weaker, sound_none, sound_found, sound_then, sound_last, sound_regroup, sound_placed, sound_if, sound_first, comma_is, sound_word, sound_open, sound_close, sound_dot, separated_sound}
+use Rattle.sql_parse.proofs.SoundTokens.{Sound, Reads, sound_weaker, sound_none, sound_found, sound_then, sound_last, sound_regroup, sound_placed, sound_if, sound_first, comma_is, sound_word, sound_open, sound_close, sound_dot, separated_sound}
 
 -- lists with commas
 module _ {A : Type 0} (Spells : A → List Token → Type 0) (read : List Token → Read A) (each : (tokens : List Token) → Reads Spells tokens (read tokens)) where

@@ -1,22 +1,19 @@
 -- What is read of a declaration of a table, but for its rules, is in the grammar.
-use Rattle.std.proofs.Common.{ℕ, pos, ◌≤◌, ◌≡◌, ◌⊎◌, refl, ap, sym, ◌∙◌, Bool, true, false, if◌then◌else◌, List, [], ◌∷◌, ◌++◌, length, codes, append_assoc, append-nil, inl, inr, lit≤}
+use Rattle.std.proofs.Common.{ℕ, pos, ◌≡◌, ◌⊎◌, refl, ap, true, false, if◌then◌else◌, List, [], ◌∷◌, codes, inl, inr}
 use Rattle.lint_base.specs.declared.place.Span.{Span}
 use Rattle.sql_lex.specs.declared.token.Sign.TheVariants.{Open, Close}
 use Rattle.sql_lex.specs.declared.token.Kind.{Kind}
 use Rattle.sql_lex.specs.declared.token.Kind.TheVariants as kind
 use Rattle.sql_lex.specs.declared.token.Token.{Token}
-use Rattle.sql_tree.specs.declared.term.NameTree.{NameTree}
 use Rattle.sql_tree.specs.declared.schema.TypeTree.{TypeTree}
-use Rattle.sql_tree.specs.declared.schema.TypeTree.TheVariants.{Small, Integer, Big, Text}
-use Rattle.sql_parse.specs.grammar.Words.{word, called, sign, number, CONSTRAINT, NULL, ON, REFERENCES}
-use Rattle.sql_parse.specs.grammar.Names.{SpellsName, SpellsNames}
+use Rattle.sql_tree.specs.declared.schema.TypeTree.TheVariants.{Integer, Text}
+use Rattle.sql_parse.specs.grammar.Words.{word, called, sign, number, CONSTRAINT}
 use Rattle.sql_parse.specs.grammar.Tables as table
 use Rattle.sql_parse.specs.grammar.Tables.{IsChar, IsEvent, SpellsType, SpellsDefault, SpellsConstraint, SpellsAction, SpellsActions, SpellsTarget, SpellsReference}
-use Rattle.sql_parse.specs.reading.Tokens.{Read, found, and_then, is_word, is_open, is_called, at_head, expect, read_after}
-use Rattle.sql_parse.specs.reading.Terms.{read_name}
-use Rattle.sql_parse.specs.reading.Tables.{read_length, character_rest, is_character, is_integer, type_from, read_type, read_default, read_constraint, is_event, is_plain_action, is_set_value, action_from, read_action, read_event, read_actions, read_one_name, read_target, read_reference}
-use Rattle.sql_parse.proofs.SoundTokens.{Sound, Reads, sound_weaker, sound_none, sound_found, sound_first, sound_then, sound_last, sound_regroup, sound_if, sound_token, either, word_is, called_is, sound_word, sound_called, sound_open, sound_close, parts_sound}
-use Rattle.sql_parse.proofs.SoundTerms.{name_sound, names_sound, number_sound, value_sound}
+use Rattle.sql_parse.specs.reading.Tokens.{found, is_word, is_open, is_called, at_head, read_after}
+use Rattle.sql_parse.specs.reading.Tables.{read_length, character_rest, is_character, is_integer, type_from, read_type, read_default, read_constraint}
+use Rattle.sql_parse.proofs.SoundTokens.{Sound, Reads, sound_weaker, sound_none, sound_found, sound_first, sound_then, sound_last, sound_regroup, sound_if, either, called_is, sound_word, sound_called, sound_open, sound_close}
+use Rattle.sql_parse.proofs.SoundTerms.{name_sound, number_sound, value_sound}
 
 -- one of two words
 pub one_of : (first second : List ℕ) (k : Kind) → (if is_called first k then true else is_called second k) ≡ true → (text : List ℕ) × ((text ≡ first) ⊎ (text ≡ second)) × (k ≡ kind.Name text false)
