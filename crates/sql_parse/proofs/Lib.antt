@@ -23,4 +23,15 @@ pub mod Places
 pub mod Rules
 pub mod Separated
 pub mod Shorter
+pub mod Sound
+pub mod SoundFlat
+pub mod SoundItems
+pub mod SoundPredicates
+pub mod SoundQueries
+pub mod SoundReferences
+pub mod SoundSelects
+pub mod SoundTables
+pub mod SoundTerms
+pub mod SoundTokens
+pub mod SoundTypes
 pub mod Statements
