@@ -35,3 +35,4 @@ pub mod SoundTerms
 pub mod SoundTokens
 pub mod SoundTypes
 pub mod Statements
+pub mod SchemaAnswers
