@@ -1,4 +1,5 @@
 pub mod Called
+pub mod Collected
 pub mod Complete
 pub mod CompleteConditions
 pub mod CompleteFlat
@@ -18,9 +19,9 @@ pub mod GrammarBegins
 pub mod GrammarExamples
 pub mod GrammarRefused
 pub mod LastEnds
-pub mod Loops
 pub mod Places
 pub mod Rules
+pub mod SchemaAnswers
 pub mod Separated
 pub mod Shorter
 pub mod Sound
@@ -35,4 +36,3 @@ pub mod SoundTerms
 pub mod SoundTokens
 pub mod SoundTypes
 pub mod Statements
-pub mod SchemaAnswers

@@ -8,7 +8,7 @@ use Rattle.sql_parse.specs.reading.Tokens.{Read, found, and_then, is_semicolon, 
 use Rattle.sql_parse.specs.reading.Gives.{Stops}
 use Rattle.sql_parse.specs.reading.Schemas.{read_statement, read_next_statement, read_schema}
 use Rattle.sql_parse.proofs.Shorter.{next_statement_below, next_statement_shorter}
-use Rattle.sql_parse.proofs.Loops.{from_here, goes_on, ends, stops, stops_whole}
+use Rattle.sql_parse.proofs.Collected.{from_here, goes_on, ends, stops, stops_whole}
 
 -- what is read of the rest, after these tables
 abbrev pub statements_from : ℕ → List CreateTable → ℕ → List Token → Read (List CreateTable)

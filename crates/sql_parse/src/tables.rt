@@ -9,6 +9,7 @@ ghost use Rattle.sql_parse.specs.reading.Tables.{read_length, character_rest, re
 
 use crate::conditions_stub::condition;
 use crate::front::{Mark, Nesting, ParseStop, at, expect, is, next};
+use crate::lists::separated;
 use crate::reserved::{CHECK, CONSTRAINT, CREATE, FOREIGN, NOT, NULL, ON, PRIMARY, REFERENCES, TABLE, UNIQUE};
 use crate::terms::{name, names, number, value};
 use crate::words::{expect_called, is_called, next_called};
@@ -425,19 +426,10 @@ fn element<'a>(alloc: Global, depth: usize, tokens: &'a [Token]) -> Result<(Elem
 }
 
 /// Elements with commas between them.
-#[tactic(auto, using(crate::proofs::Separated::separated_rules, crate::proofs::Shorter::element_shorter))]
 fn listed_elements<'a>(alloc: Global, depth: usize, tokens: &'a [Token]) -> Result<(Items<Element>, &'a [Token]), ParseStop>
     ensures { Gives (read_separated is_comma (read_element depth) tokens.now) result }
 {
-    let (first, mut rest) = element(alloc, depth, tokens)?;
-    let mut elements = Items::new(alloc);
-    elements.push(first)?;
-    while let Some((_, after)) = next(rest, Mark::Comma) {
-        let (other, after) = element(alloc, depth, after)?;
-        elements.push(other)?;
-        rest = after;
-    }
-    Ok((elements, rest))
+    separated(alloc, tokens, Mark::Comma, |part| element(alloc, depth, part))
 }
 
 /// The elements of a table, in parentheses.
