@@ -2,6 +2,8 @@
 #![tactic(auto)]
 
 mod front;
-mod reserved;
-mod terms;
 mod refusals;
+mod reserved;
+mod selects;
+mod terms;
+mod trial;
