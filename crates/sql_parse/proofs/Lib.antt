@@ -1,3 +1,5 @@
 pub mod Ends
 pub mod Places
 pub mod Shorter
+pub mod Separated
+pub mod Shortens

@@ -155,3 +155,19 @@ pub(crate) fn term<'a>(alloc: Global, tokens: &'a [Token]) -> Result<(TermTree, 
     }
     value(alloc, tokens)
 }
+
+/// Names with commas between them.
+#[tactic(auto, using(crate::proofs::Separated::separated_rules, crate::proofs::Shortens::name_shortens))]
+fn listed_names<'a>(alloc: Global, tokens: &'a [Token]) -> Result<(Items<NameTree>, &'a [Token]), ParseStop>
+    ensures { Gives (read_separated is_comma read_name tokens.now) result }
+{
+    let (first, mut rest) = name(alloc, tokens)?;
+    let mut names = Items::new(alloc);
+    names.push(first)?;
+    while let Some((_, after)) = next(rest, Mark::Comma) {
+        let (other, after) = name(alloc, after)?;
+        names.push(other)?;
+        rest = after;
+    }
+    Ok((names, rest))
+}
