@@ -2,4 +2,4 @@ pub mod Ends
 pub mod Places
 pub mod Shorter
 pub mod Separated
-pub mod Shortens
+pub mod Conditions

@@ -1,5 +1,5 @@
 -- Reading parts with such a token between them one after the other, as a loop does.
-use Rattle.std.proofs.Common.{◌≡◌, ℕ, zero, suc, ◌+◌, ◌≤◌, Bool, true, false, if◌then◌else◌, List, [], ◌∷◌, ◌++◌, length, Option, Some, None, refl, sym, ap, ◌∙◌, append_assoc, arith}
+use Rattle.std.proofs.Common.{◌≡◌, ℕ, zero, suc, ◌+◌, ◌≤◌, ◌<◌, Bool, true, false, if◌then◌else◌, List, [], ◌∷◌, ◌++◌, length, Option, Some, None, refl, sym, ap, ◌∙◌, append_assoc, arith}
 use Rattle.std.proofs.lemmas.List.{append-nil, length-append}
 use Rattle.sql_lex.specs.declared.token.Kind.{Kind}
 use Rattle.sql_lex.specs.declared.token.Token.{Token}
@@ -7,10 +7,7 @@ use Rattle.sql_parse.specs.declared.front.ParseStop.{ParseStop}
 use Rattle.sql_parse.specs.declared.front.ParseStop.TheVariants as stops
 use Rattle.sql_parse.specs.reading.Tokens.{Read, found, and_then, at_head, expect, read_while, read_parts, read_alone, read_after, read_separated}
 use Rattle.sql_parse.specs.reading.Gives.{Stops}
-
--- each part takes a token
-abbrev pub Shortens : {A : Type 0} → (List Token → Read A) → Type 0
-Shortens {A} read = (tokens : List Token) (a : A) (rest : List Token) → read tokens ≡ found a rest → suc (length rest) ≤ length tokens
+use Rattle.sql_parse.proofs.Shorter.{Shorter, expect_shorter}
 
 -- what was read before, and what is still read
 abbrev pub with_front : {A : Type 0} → List A → Read (List A) → Read (List A)
@@ -54,17 +51,17 @@ module _ {A : Type 0} (test : Kind → Bool) (read : List Token → Read A) wher
   unfolding read_while
   while_ends clock count tokens head = rw head refl
 
-  after_shortens : Shortens read → Shortens (read_after test read)
+  after_shorter : Shorter read → Shorter (read_after test read)
   unfolding read_after and_then expect
-  after_shortens short [] a rest e = absurd cc
-  after_shortens short (t ∷ tokens) a rest e =
+  after_shorter short [] a rest e = absurd cc
+  after_shorter short (t ∷ tokens) a rest e =
       elim (test t.kind) as (λ b. and_then (if b then found t tokens else None) (λ u left. read left) ≡ found a rest → suc (length rest) ≤ suc (length tokens)) [
         | true ↦ λ h. let k = short tokens a rest h in omega arith
         | false ↦ λ h. absurd cc
       ] e
 
   -- the clock is long enough
-  same_clock : Shortens read → (clock other count : ℕ) (tokens : List Token) → suc (length tokens) ≤ clock → suc (length tokens) ≤ other → while clock count tokens ≡ while other count tokens
+  same_clock : Shorter read → (clock other count : ℕ) (tokens : List Token) → suc (length tokens) ≤ clock → suc (length tokens) ≤ other → while clock count tokens ≡ while other count tokens
   same_clock short zero other count tokens l m = absurd (omega arith)
   same_clock short (suc clock) zero count tokens l m = absurd (omega arith)
   same_clock short (suc clock) (suc other) count tokens l m =
@@ -74,17 +71,17 @@ module _ {A : Type 0} (test : Kind → Bool) (read : List Token → Read A) wher
             elim (read_after test read tokens) as (λ o. read_after test read tokens ≡ o → while (suc clock) count tokens ≡ while (suc other) count tokens) [
               | None ↦ λ e. while_stops clock count tokens head e ∙ sym (while_stops other count tokens head e)
               | Some r ↦ λ e.
-                  let less = after_shortens short tokens r.0 r.1 e in
+                  let less = after_shorter short tokens r.0 r.1 e in
                   let same = same_clock short clock other (count + 1) r.1 (omega arith) (omega arith) in
                   while_goes_on clock count tokens r.1 r.0 head e ∙ ap (λ (m : Read (List A)). and_then m (λ parts after. found (r.0 ∷ parts) after)) same ∙ sym (while_goes_on other count tokens r.1 r.0 head e)
             ] refl
       ] refl
 
-  more_goes_on : Shortens read → (count : ℕ) (tokens rest : List Token) (a : A) → at_head test tokens ≡ true → read_after test read tokens ≡ found a rest
+  more_goes_on : Shorter read → (count : ℕ) (tokens rest : List Token) (a : A) → at_head test tokens ≡ true → read_after test read tokens ≡ found a rest
       → more count tokens ≡ and_then (more (count + 1) rest) (λ parts after. found (a ∷ parts) after)
   unfolding read_parts
   more_goes_on short count tokens rest a head e =
-      let less = after_shortens short tokens a rest e in
+      let less = after_shorter short tokens a rest e in
       while_goes_on (length tokens) count tokens rest a head e
       ∙ ap (λ (m : Read (List A)). and_then m (λ parts after. found (a ∷ parts) after)) (same_clock short (length tokens) (suc (length rest)) (count + 1) rest less (omega arith))
 
@@ -96,7 +93,7 @@ module _ {A : Type 0} (test : Kind → Bool) (read : List Token → Read A) wher
   unfolding gathered read_separated and_then
   gathered_start none one tokens rest a e empty is = rw (e, is, empty) refl
 
-  pub gathered_step : Shortens read → (so_far longer : List A) (tokens after rest : List Token) (t : Token) (a : A) → at_head test tokens ≡ true → expect test tokens ≡ found t after → read after ≡ found a rest
+  pub gathered_step : Shorter read → (so_far longer : List A) (tokens after rest : List Token) (t : Token) (a : A) → at_head test tokens ≡ true → expect test tokens ≡ found t after → read after ≡ found a rest
       → longer ≡ so_far ++ a ∷ [] → gathered longer rest ≡ gathered so_far tokens
   unfolding gathered
   gathered_step short so_far longer tokens after rest t a head e h is =
@@ -108,6 +105,12 @@ module _ {A : Type 0} (test : Kind → Bool) (read : List Token → Read A) wher
   pub gathered_end : (so_far : List A) (tokens : List Token) → at_head test tokens ≡ false → gathered so_far tokens ≡ found so_far tokens
   unfolding gathered and_then read_parts
   gathered_end so_far tokens head = rw (while_ends (length tokens) (length so_far) tokens head) (ap (λ (parts : List A). found parts tokens) (append-nil so_far))
+
+  pub gathered_smaller : Shorter read → (tokens after rest : List Token) (t : Token) (a : A) → expect test tokens ≡ found t after → read after ≡ found a rest → length rest < length tokens
+  gathered_smaller short tokens after rest t a e h =
+      let one = expect_shorter test tokens t after e in
+      let two = short after a rest h in
+      omega arith
 
   -- where the first part is not read, and where another one is not
   pub stops_first : (stop : ParseStop) (tokens : List Token) → Stops (read tokens) stop → Stops (read_separated test read tokens) stop
@@ -121,4 +124,4 @@ module _ {A : Type 0} (test : Kind → Bool) (read : List Token → Read A) wher
   stops_later (stops.Syntax left) so_far tokens after t head e h =
       rw (while_stops (length tokens) (length so_far) tokens head (after_one tokens after t None e h)) refl
 
-pub ruleset separated_rules = (gathered_start, gathered_step, gathered_end, stops_first, stops_later)
+pub ruleset separated_rules = (gathered_start, gathered_step, gathered_end, gathered_smaller, stops_first, stops_later)

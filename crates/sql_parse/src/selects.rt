@@ -41,6 +41,7 @@ fn all_of(parts: Items<CondTree>) -> CondTree
 
 /// A whole condition.
 #[cycle(nested)]
+#[tactic(auto, using(crate::proofs::Separated::separated_rules, crate::proofs::Shorter::conjunction_shorter), unfolding(crate::specs::reading::Selects::read_cond, crate::specs::reading::Selects::read_disjunction, crate::specs::reading::Tokens::and_then))]
 pub(crate) fn condition<'a>(alloc: Global, nesting: Nesting, tokens: &'a [Token]) -> Result<(CondTree, &'a [Token]), ParseStop>
     ensures { Gives (read_cond nesting.flat nesting.depth tokens.now) result }
 {
@@ -60,6 +61,7 @@ pub(crate) fn condition<'a>(alloc: Global, nesting: Nesting, tokens: &'a [Token]
 }
 
 #[cycle(nested)]
+#[tactic(auto, using(crate::proofs::Separated::separated_rules, crate::proofs::Shorter::factor_shorter), unfolding(crate::specs::reading::Selects::read_conjunction, crate::specs::reading::Tokens::and_then))]
 fn conjunction<'a>(alloc: Global, nesting: Nesting, tokens: &'a [Token]) -> Result<(CondTree, &'a [Token]), ParseStop>
     ensures { Gives (read_conjunction nesting.flat (read_cond nesting.flat nesting.depth) tokens.now) result }
 {
@@ -88,6 +90,7 @@ fn factor<'a>(alloc: Global, nesting: Nesting, tokens: &'a [Token]) -> Result<(C
 }
 
 #[cycle(nested)]
+#[tactic(auto, unfolding(crate::specs::reading::Selects::read_primary))]
 fn primary<'a>(alloc: Global, nesting: Nesting, tokens: &'a [Token]) -> Result<(CondTree, &'a [Token]), ParseStop>
     ensures { Gives (read_primary nesting.flat (read_cond nesting.flat nesting.depth) tokens.now) result }
 {

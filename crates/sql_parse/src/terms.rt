@@ -157,7 +157,7 @@ pub(crate) fn term<'a>(alloc: Global, tokens: &'a [Token]) -> Result<(TermTree, 
 }
 
 /// Names with commas between them.
-#[tactic(auto, using(crate::proofs::Separated::separated_rules, crate::proofs::Shortens::name_shortens))]
+#[tactic(auto, using(crate::proofs::Separated::separated_rules, crate::proofs::Shorter::name_shorter))]
 fn listed_names<'a>(alloc: Global, tokens: &'a [Token]) -> Result<(Items<NameTree>, &'a [Token]), ParseStop>
     ensures { Gives (read_separated is_comma read_name tokens.now) result }
 {
