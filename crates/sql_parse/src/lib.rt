@@ -3,6 +3,8 @@
 
 mod front;
 mod refusals;
+mod items;
+mod predicates;
 mod reserved;
 mod selects;
 mod terms;

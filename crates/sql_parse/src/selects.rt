@@ -41,7 +41,7 @@ fn all_of(parts: Items<CondTree>) -> CondTree
 
 /// A whole condition.
 #[cycle(nested)]
-#[tactic(auto, using(crate::proofs::Separated::separated_rules, crate::proofs::Shorter::conjunction_shorter), unfolding(crate::specs::reading::Selects::read_cond, crate::specs::reading::Selects::read_disjunction, crate::specs::reading::Tokens::and_then))]
+#[tactic(auto, using(crate::proofs::Separated::separated_rules, crate::proofs::Shorter::conjunction_shorter, crate::proofs::Conditions::condition_rules), unfolding(crate::specs::reading::Selects::read_cond))]
 pub(crate) fn condition<'a>(alloc: Global, nesting: Nesting, tokens: &'a [Token]) -> Result<(CondTree, &'a [Token]), ParseStop>
     ensures { Gives (read_cond nesting.flat nesting.depth tokens.now) result }
 {
@@ -61,7 +61,7 @@ pub(crate) fn condition<'a>(alloc: Global, nesting: Nesting, tokens: &'a [Token]
 }
 
 #[cycle(nested)]
-#[tactic(auto, using(crate::proofs::Separated::separated_rules, crate::proofs::Shorter::factor_shorter), unfolding(crate::specs::reading::Selects::read_conjunction, crate::specs::reading::Tokens::and_then))]
+#[tactic(auto, using(crate::proofs::Separated::separated_rules, crate::proofs::Shorter::factor_shorter, crate::proofs::Conditions::condition_rules))]
 fn conjunction<'a>(alloc: Global, nesting: Nesting, tokens: &'a [Token]) -> Result<(CondTree, &'a [Token]), ParseStop>
     ensures { Gives (read_conjunction nesting.flat (read_cond nesting.flat nesting.depth) tokens.now) result }
 {

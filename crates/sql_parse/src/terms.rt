@@ -13,11 +13,22 @@ use std::alloc::Global;
 
 /// A name.
 #[tactic(auto, unfolding(crate::specs::reading::Terms::read_name, crate::specs::reading::Terms::name_from))]
-pub(crate) fn name<'a>(alloc: Global, tokens: &'a [Token]) -> Result<(NameTree, &'a [Token]), ParseStop>
+pub(crate) fn name<'a>(
+    alloc: Global,
+    tokens: &'a [Token],
+) -> Result<(NameTree, &'a [Token]), ParseStop>
     ensures { Gives (read_name tokens.now) result }
 {
     match tokens.split_first() {
-        Some((Token { kind: Kind::Name { text, .. }, span }, rest)) => {
+        Some(
+            (
+                Token {
+                    kind: Kind::Name { text, .. },
+                    span,
+                },
+                rest,
+            ),
+        ) => {
             let text = text.copy(alloc)?;
             Ok((NameTree { text, span: *span }, rest))
         }
@@ -27,7 +38,10 @@ pub(crate) fn name<'a>(alloc: Global, tokens: &'a [Token]) -> Result<(NameTree, 
 
 /// [ [ AS ] name ]
 #[tactic(auto, unfolding(crate::specs::reading::Terms::read_alias, crate::specs::reading::Tokens::and_then, crate::specs::reading::Tokens::read_after))]
-pub(crate) fn alias<'a>(alloc: Global, tokens: &'a [Token]) -> Result<(Option<NameTree>, &'a [Token]), ParseStop>
+pub(crate) fn alias<'a>(
+    alloc: Global,
+    tokens: &'a [Token],
+) -> Result<(Option<NameTree>, &'a [Token]), ParseStop>
     ensures { Gives (read_alias tokens.now) result }
 {
     if let Some((_, rest)) = next(tokens, AS) {
@@ -48,9 +62,15 @@ pub(crate) fn number(tokens: &[Token]) -> Result<((i64, Span), &[Token]), ParseS
     ensures unsigned { IfOk result (λ x. int_le (pos 0) x.0.0 ≡ true) }
 {
     match tokens.split_first() {
-        Some((Token { kind: Kind::Number(value), span }, rest)) if *value >= 0 => {
-            Ok(((*value, *span), rest))
-        }
+        Some(
+            (
+                Token {
+                    kind: Kind::Number(value),
+                    span,
+                },
+                rest,
+            ),
+        ) if *value >= 0 => { Ok(((*value, *span), rest)) }
         _ => Err(ParseStop::Syntax(tokens.len())),
     }
 }
@@ -61,11 +81,27 @@ pub(crate) fn signed(tokens: &[Token]) -> Result<(i64, &[Token]), ParseStop>
     ensures { Gives (read_signed tokens.now) result }
 {
     match tokens.split_first() {
-        Some((Token { kind: Kind::Sign(Sign::Plus), .. }, rest)) => {
+        Some(
+            (
+                Token {
+                    kind: Kind::Sign(Sign::Plus),
+                    ..
+                },
+                rest,
+            ),
+        ) => {
             let ((value, _), rest) = number(rest)?;
             Ok((value, rest))
         }
-        Some((Token { kind: Kind::Sign(Sign::Minus), .. }, rest)) => {
+        Some(
+            (
+                Token {
+                    kind: Kind::Sign(Sign::Minus),
+                    ..
+                },
+                rest,
+            ),
+        ) => {
             let ((value, _), rest) = number(rest)?;
             Ok((-value, rest))
         }
@@ -75,19 +111,46 @@ pub(crate) fn signed(tokens: &[Token]) -> Result<(i64, &[Token]), ParseStop>
 
 /// A literal.
 #[tactic(auto, unfolding(crate::specs::reading::Terms::read_literal, crate::specs::reading::Terms::literal_from, crate::specs::reading::Tokens::and_then))]
-pub(crate) fn literal<'a>(alloc: Global, tokens: &'a [Token]) -> Result<(TermTree, &'a [Token]), ParseStop>
+pub(crate) fn literal<'a>(
+    alloc: Global,
+    tokens: &'a [Token],
+) -> Result<(TermTree, &'a [Token]), ParseStop>
     ensures { Gives (read_literal tokens.now) result }
 {
     match tokens.split_first() {
-        Some((Token { kind: Kind::Number(_), .. }, _)) => {
+        Some(
+            (
+                Token {
+                    kind: Kind::Number(_),
+                    ..
+                },
+                _,
+            ),
+        ) => {
             let ((value, span), rest) = number(tokens)?;
             Ok((TermTree::Number { value, span }, rest))
         }
-        Some((Token { kind: Kind::Text(text), span }, rest)) => {
+        Some(
+            (
+                Token {
+                    kind: Kind::Text(text),
+                    span,
+                },
+                rest,
+            ),
+        ) => {
             let text = text.copy(alloc)?;
             Ok((TermTree::Text { text, span: *span }, rest))
         }
-        Some((Token { kind: Kind::Sign(_), .. }, _)) => {
+        Some(
+            (
+                Token {
+                    kind: Kind::Sign(_),
+                    ..
+                },
+                _,
+            ),
+        ) => {
             let (value, rest) = signed(tokens)?;
             let span = place_before(tokens, rest);
             Ok((TermTree::Number { value, span }, rest))
@@ -98,7 +161,10 @@ pub(crate) fn literal<'a>(alloc: Global, tokens: &'a [Token]) -> Result<(TermTre
 
 /// A value.
 #[tactic(auto, unfolding(crate::specs::reading::Terms::read_value, crate::specs::reading::Tokens::and_then))]
-pub(crate) fn value<'a>(alloc: Global, tokens: &'a [Token]) -> Result<(TermTree, &'a [Token]), ParseStop>
+pub(crate) fn value<'a>(
+    alloc: Global,
+    tokens: &'a [Token],
+) -> Result<(TermTree, &'a [Token]), ParseStop>
     ensures { Gives (read_value tokens.now) result }
 {
     if let Some((word, rest)) = next(tokens, NULL) {
@@ -109,7 +175,10 @@ pub(crate) fn value<'a>(alloc: Global, tokens: &'a [Token]) -> Result<(TermTree,
 
 /// [ name "." ] name
 #[tactic(auto, unfolding(crate::specs::reading::Terms::read_column, crate::specs::reading::Terms::column_after, crate::specs::reading::Tokens::and_then, crate::specs::reading::Tokens::read_after))]
-pub(crate) fn column<'a>(alloc: Global, tokens: &'a [Token]) -> Result<((Option<NameTree>, NameTree), &'a [Token]), ParseStop>
+pub(crate) fn column<'a>(
+    alloc: Global,
+    tokens: &'a [Token],
+) -> Result<((Option<NameTree>, NameTree), &'a [Token]), ParseStop>
     ensures { Gives (read_column tokens.now) result }
 {
     let (first, rest) = name(alloc, tokens)?;
@@ -122,12 +191,23 @@ pub(crate) fn column<'a>(alloc: Global, tokens: &'a [Token]) -> Result<((Option<
 
 /// A column to which nothing is added.
 #[tactic(auto, unfolding(crate::specs::reading::Terms::read_bare, crate::specs::reading::Tokens::and_then))]
-pub(crate) fn bare_column<'a>(alloc: Global, tokens: &'a [Token]) -> Result<(TermTree, &'a [Token]), ParseStop>
+pub(crate) fn bare_column<'a>(
+    alloc: Global,
+    tokens: &'a [Token],
+) -> Result<(TermTree, &'a [Token]), ParseStop>
     ensures { Gives (read_bare tokens.now) result }
 {
     let ((table, name), rest) = column(alloc, tokens)?;
     let span = place_before(tokens, rest);
-    Ok((TermTree::Column { table, name, plus: 0, span }, rest))
+    Ok((
+        TermTree::Column {
+            table,
+            name,
+            plus: 0,
+            span,
+        },
+        rest,
+    ))
 }
 
 /// A column, with what is added to it.
@@ -139,15 +219,34 @@ fn sum<'a>(alloc: Global, tokens: &'a [Token]) -> Result<(TermTree, &'a [Token])
     if at(rest, Mark::Plus) {
         let (plus, rest) = signed(rest)?;
         let span = place_before(tokens, rest);
-        return Ok((TermTree::Column { table, name, plus, span }, rest));
+        return Ok((
+            TermTree::Column {
+                table,
+                name,
+                plus,
+                span,
+            },
+            rest,
+        ));
     }
     let span = place_before(tokens, rest);
-    Ok((TermTree::Column { table, name, plus: 0, span }, rest))
+    Ok((
+        TermTree::Column {
+            table,
+            name,
+            plus: 0,
+            span,
+        },
+        rest,
+    ))
 }
 
 /// A term.
 #[tactic(auto, unfolding(crate::specs::reading::Terms::read_term))]
-pub(crate) fn term<'a>(alloc: Global, tokens: &'a [Token]) -> Result<(TermTree, &'a [Token]), ParseStop>
+pub(crate) fn term<'a>(
+    alloc: Global,
+    tokens: &'a [Token],
+) -> Result<(TermTree, &'a [Token]), ParseStop>
     ensures { Gives (read_term tokens.now) result }
 {
     if at(tokens, Mark::Name) {
@@ -158,7 +257,10 @@ pub(crate) fn term<'a>(alloc: Global, tokens: &'a [Token]) -> Result<(TermTree, 
 
 /// Names with commas between them.
 #[tactic(auto, using(crate::proofs::Separated::separated_rules, crate::proofs::Shorter::name_shorter))]
-fn listed_names<'a>(alloc: Global, tokens: &'a [Token]) -> Result<(Items<NameTree>, &'a [Token]), ParseStop>
+fn listed_names<'a>(
+    alloc: Global,
+    tokens: &'a [Token],
+) -> Result<(Items<NameTree>, &'a [Token]), ParseStop>
     ensures { Gives (read_separated is_comma read_name tokens.now) result }
 {
     let (first, mut rest) = name(alloc, tokens)?;
@@ -169,5 +271,19 @@ fn listed_names<'a>(alloc: Global, tokens: &'a [Token]) -> Result<(Items<NameTre
         names.push(other)?;
         rest = after;
     }
+    Ok((names, rest))
+}
+
+/// Names in parentheses.
+#[tactic(auto, unfolding(crate::specs::reading::Terms::read_names, crate::specs::reading::Tokens::and_then))]
+pub(crate) fn names<'a>(
+    alloc: Global,
+    tokens: &'a [Token],
+) -> Result<(Items<NameTree>, &'a [Token]), ParseStop>
+    ensures { Gives (read_names tokens.now) result }
+{
+    let (_, rest) = expect(tokens, Mark::Open)?;
+    let (names, rest) = listed_names(alloc, rest)?;
+    let (_, rest) = expect(rest, Mark::Close)?;
     Ok((names, rest))
 }
