@@ -38,23 +38,29 @@ module _ (flat : Bool) (self : List Token → Read CondTree) where
   conjunction_ends tokens so_far rest same head =
       ap (λ (f : Read (List CondTree)). and_then f (λ parts left. found (alone_or And parts) left)) (sym same ∙ gathered_end (is_word AND) (read_factor flat self) so_far rest head)
 
+unfolded : (flat : Bool) (depth : ℕ) → depth ≢ 0 → (tokens : List Token) → read_cond flat depth tokens ≡ read_disjunction flat (read_cond flat (depth - 1)) tokens
+unfolding read_cond
+unfolded flat zero some tokens = absurd (some refl)
+unfolded flat (suc depth) some tokens = let same : suc depth - 1 ≡ depth = omega arith in rw same refl
+
 module _ (flat : Bool) (depth : ℕ) where
   -- the reading of what OR joins, at the depth below
   abbrev pub below : List Token → Read CondTree
   below = read_conjunction flat (read_cond flat (depth - 1))
 
-  unfolded : depth ≢ 0 → (tokens : List Token) → read_cond flat depth tokens ≡ and_then (read_separated (is_word OR) below tokens) (λ parts rest. found (alone_or Or parts) rest)
-  unfolded some tokens = ?
+  whole : depth ≢ 0 → (tokens : List Token) → read_cond flat depth tokens ≡ and_then (read_separated (is_word OR) below tokens) (λ parts rest. found (alone_or Or parts) rest)
+  unfolding read_disjunction
+  whole some tokens = unfolded flat depth some tokens
 
   pub condition_first : (stop : ParseStop) (tokens : List Token) → depth ≢ 0 → Stops (below tokens) stop → Stops (read_cond flat depth tokens) stop
   condition_first stop tokens some e =
-      rw (unfolded some tokens) (stops_then stop (read_separated (is_word OR) below tokens) _ (stops_first (is_word OR) below stop tokens e))
+      rw (whole some tokens) (stops_then stop (read_separated (is_word OR) below tokens) _ (stops_first (is_word OR) below stop tokens e))
 
   pub condition_later : (stop : ParseStop) (tokens : List Token) (so_far : List CondTree) (rest after : List Token) (t : Token) → depth ≢ 0
       → gathered (is_word OR) below so_far rest ≡ read_separated (is_word OR) below tokens
       → at_head (is_word OR) rest ≡ true → expect (is_word OR) rest ≡ found t after → Stops (below after) stop → Stops (read_cond flat depth tokens) stop
   condition_later stop tokens so_far rest after t some same head e h =
-      rw (unfolded some tokens)
+      rw (whole some tokens)
       (stops_then stop (read_separated (is_word OR) below tokens) _ (rw (sym same) (stops_later (is_word OR) below stop so_far rest after t head e h)))
 
   pub condition_ends : (tokens : List Token) (so_far : List CondTree) (rest : List Token) → depth ≢ 0
@@ -62,7 +68,7 @@ module _ (flat : Bool) (depth : ℕ) where
       → at_head (is_word OR) rest ≡ false → read_cond flat depth tokens ≡ found (alone_or Or so_far) rest
   unfolding and_then
   condition_ends tokens so_far rest some same head =
-      unfolded some tokens
+      whole some tokens
       ∙ ap (λ (f : Read (List CondTree)). and_then f (λ parts left. found (alone_or Or parts) left)) (sym same ∙ gathered_end (is_word OR) below so_far rest head)
 
 pub ruleset condition_rules = (conjunction_first, conjunction_later, conjunction_ends, condition_first, condition_later, condition_ends)

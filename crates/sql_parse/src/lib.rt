@@ -2,10 +2,9 @@
 #![tactic(auto)]
 
 mod front;
-mod refusals;
 mod items;
 mod predicates;
+mod refusals;
 mod reserved;
 mod selects;
 mod terms;
-mod trial;
