@@ -5,3 +5,4 @@ pub mod Separated
 pub mod Loops
 pub mod Conditions
 pub mod Groups
+pub mod PredicateParts

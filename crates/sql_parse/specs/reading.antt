@@ -1,5 +1,6 @@
 pub mod Tokens
 pub mod Gives
+pub mod Operators
 pub mod Terms
 pub mod Predicates
 pub mod Items

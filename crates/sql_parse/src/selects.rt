@@ -7,6 +7,7 @@ ghost use Rattle.sql_parse.specs.reading.Tokens.{at_head};
 ghost use Rattle.sql_parse.specs.reading.Predicates.{comparison_rest, in_rest, negatable, read_predicate};
 ghost use Rattle.sql_parse.specs.reading.Selects.{placed, is_join, without_inner, cross_joined, inner_joined, read_join, read_group, read_groups, read_where, read_select, read_subquery, read_parenthesized, read_exists, read_primary, read_factor, read_conjunction, read_cond};
 ghost use Rattle.sql_parse.specs.reading.Gives.{Gives};
+ghost use Rattle.sql_parse.specs.reading.Operators.{GivesOperator};
 
 use crate::front::{Mark, Nesting, ParseStop, at, expect, next, place_before};
 use crate::items::{entry, items, quantifier};
@@ -211,6 +212,17 @@ fn subquery<'a>(alloc: Global, nesting: Nesting, scalar: bool, tokens: &'a [Toke
     Ok((placed(parts, place_before(tokens, rest)), rest))
 }
 
+/// The operator of a comparison.
+#[tactic(auto, unfolding(crate::specs::reading::Operators::operator_of, crate::specs::reading::Operators::first_operator))]
+fn operator(tokens: &[Token]) -> Option<(Op, &[Token])>
+    ensures { GivesOperator tokens.now result }
+{
+    match tokens.split_first() {
+        Some((Token { kind: Kind::Sign(Sign::Compare(op)), .. }, rest)) => Some((*op, rest)),
+        _ => None,
+    }
+}
+
 /// What comes after the operator of a comparison.
 #[cycle(nested)]
 #[tactic(auto, unfolding(crate::specs::reading::Predicates::comparison_rest, crate::specs::reading::Tokens::and_then))]
@@ -259,20 +271,19 @@ fn negatable<'a>(alloc: Global, nesting: Nesting, tokens: &'a [Token], term: Ter
 
 /// A predicate that begins with a term.
 #[cycle(nested)]
-#[tactic(auto, unfolding(crate::specs::reading::Predicates::read_predicate, crate::specs::reading::Predicates::predicate_rest, crate::specs::reading::Predicates::predicate_from, crate::specs::reading::Tokens::and_then))]
+#[tactic(auto, using(crate::proofs::PredicateParts::predicate_rules))]
 fn predicate<'a>(alloc: Global, nesting: Nesting, tokens: &'a [Token]) -> Result<(CondTree, &'a [Token]), ParseStop>
     ensures { Gives (read_predicate (read_subquery nesting.flat (read_cond nesting.flat nesting.depth)) tokens.now) result }
 {
     let (term, rest) = term(alloc, tokens)?;
-    match rest.split_first() {
-        Some((Token { kind: Kind::Sign(Sign::Compare(op)), .. }, after)) => comparison_rest(alloc, nesting, tokens, term, *op, after),
-        Some((Token { kind: Kind::Reserved(22), .. }, after)) => null_rest(tokens, term, after),
-        Some(_) => {
-            let (negated, after) = not_word(rest)?;
-            negatable(alloc, nesting, tokens, term, negated, after)
-        }
-        None => Err(ParseStop::Syntax(0)),
+    if let Some((op, rest)) = operator(rest) {
+        return comparison_rest(alloc, nesting, tokens, term, op, rest);
     }
+    if let Some((_, rest)) = next(rest, IS) {
+        return null_rest(tokens, term, rest);
+    }
+    let (negated, rest) = not_word(rest)?;
+    negatable(alloc, nesting, tokens, term, negated, rest)
 }
 
 /// A condition in parentheses.
