@@ -6,3 +6,4 @@ pub mod Loops
 pub mod Conditions
 pub mod Groups
 pub mod PredicateParts
+pub mod Called

@@ -1,12 +1,14 @@
 -- Reading parts with such a token between them one after the other, as a loop does.
-use Rattle.std.proofs.Common.{◌≡◌, ℕ, zero, suc, ◌+◌, ◌≤◌, ◌<◌, Bool, true, false, if◌then◌else◌, List, [], ◌∷◌, ◌++◌, length, Option, Some, None, refl, sym, ap, ◌∙◌, append_assoc, arith}
+use Rattle.std.proofs.Common.{Result, Ok, Err, ◌≡◌, ℕ, zero, suc, ◌+◌, ◌≤◌, ◌<◌, Bool, true, false, if◌then◌else◌, List, [], ◌∷◌, ◌++◌, length, Option, Some, None, refl, sym, ap, ◌∙◌, append_assoc, arith}
 use Rattle.std.proofs.lemmas.List.{append-nil, length-append}
+use Rattle.std.specs.Prelude.{IfOk}
+use Rattle.std.specs.Borrow.{Bor}
 use Rattle.sql_lex.specs.declared.token.Kind.{Kind}
 use Rattle.sql_lex.specs.declared.token.Token.{Token}
 use Rattle.sql_parse.specs.declared.front.ParseStop.{ParseStop}
 use Rattle.sql_parse.specs.declared.front.ParseStop.TheVariants as stops
 use Rattle.sql_parse.specs.reading.Tokens.{Read, found, and_then, at_head, expect, read_while, read_parts, read_alone, read_after, read_separated}
-use Rattle.sql_parse.specs.reading.Gives.{Stops}
+use Rattle.sql_parse.specs.reading.Gives.{Stops, Gives}
 use Rattle.sql_parse.proofs.Shorter.{Shorter, expect_shorter}
 
 -- what was read before, and what is still read
@@ -125,3 +127,8 @@ module _ {A : Type 0} (test : Kind → Bool) (read : List Token → Read A) wher
       rw (while_stops (length tokens) (length so_far) tokens head (after_one tokens after t None e h)) refl
 
 pub ruleset separated_rules = (gathered_start, gathered_step, gathered_end, gathered_smaller, stops_first, stops_later)
+
+-- what gives a reading that takes tokens takes tokens
+pub gives_shorter : {A : Type 0} (read : List Token → Read A) → Shorter read → (tokens : List Token) (r : Result (A × Bor (List Token)) ParseStop) → Gives (read tokens) r → IfOk r (λ x. length x.1.now < length tokens)
+gives_shorter read short tokens (Ok x) given = short tokens x.0 x.1.now given
+gives_shorter read short tokens (Err e) given = tt

@@ -11,6 +11,7 @@ use Rattle.sql_tree.specs.declared.term.TermTree.{TermTree}
 use Rattle.sql_tree.specs.declared.select.SelectTree.{SelectTree}
 use Rattle.sql_tree.specs.declared.select.CondTree.{CondTree}
 use Rattle.sql_tree.specs.declared.select.OrderTree.{OrderTree}
+pub use Rattle.sql_parse.specs.reading.Separated.{Shorter}
 use Rattle.sql_parse.specs.reading.Tokens.{Read, found, and_then, expect, read_while, read_parts, read_alone, read_after, read_separated}
 use Rattle.sql_parse.specs.reading.Terms.{Named, read_name, name_from, read_names, read_alias, number_from, read_number, signed_from, read_signed, literal_from, read_literal, read_value, column_after, read_column, read_bare, term_after, read_term}
 use Rattle.sql_parse.specs.reading.Predicates.{read_not, comparison_rest, null_rest, between_rest, values_rest, list_or_select, in_rest, negatable, predicate_from, predicate_rest, read_predicate}
@@ -566,9 +567,6 @@ fewer n f a rest h e = (rw e at h).left
 
 pub no_more : {A : Type 0} (n : ℕ) (f : Read A) (a : A) (rest : List Token) → Within n f → f ≡ found a rest → length rest ≤ n
 no_more n f a rest h e = (rw e at h).left
-
-abbrev pub Shorter : {A : Type 0} → (List Token → Read A) → Type 0
-Shorter {A} read = (tokens : List Token) (a : A) (rest : List Token) → read tokens ≡ found a rest → suc (length rest) ≤ length tokens
 
 abbrev pub NoLonger : {A : Type 0} → (List Token → Read A) → Type 0
 NoLonger {A} read = (tokens : List Token) (a : A) (rest : List Token) → read tokens ≡ found a rest → length rest ≤ length tokens

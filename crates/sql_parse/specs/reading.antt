@@ -1,6 +1,8 @@
 pub mod Tokens
 pub mod Gives
 pub mod Operators
+pub mod Separated
+pub mod Leaves
 pub mod Terms
 pub mod Predicates
 pub mod Items

@@ -5,6 +5,7 @@ ghost use Rattle.sql_parse.specs.reading.Items.{read_quantifier, item_after, dot
 ghost use Rattle.sql_parse.specs.reading.Gives.{Gives};
 
 use crate::front::{Mark, ParseStop, at, next, place_before};
+use crate::lists::separated;
 use crate::reserved::{ALL, DISTINCT};
 use crate::terms::{alias, literal, name};
 use lint_base::{Items, Span};
@@ -113,22 +114,13 @@ fn item<'a>(alloc: Global, tokens: &'a [Token]) -> Result<(ItemTree, &'a [Token]
 }
 
 /// Items with commas between them.
-#[tactic(auto, using(crate::proofs::Separated::separated_rules, crate::proofs::Shorter::item_shorter))]
 fn listed_items<'a>(
     alloc: Global,
     tokens: &'a [Token],
 ) -> Result<(Items<ItemTree>, &'a [Token]), ParseStop>
     ensures { Gives (read_separated is_comma read_item tokens.now) result }
 {
-    let (first, mut rest) = item(alloc, tokens)?;
-    let mut items = Items::new(alloc);
-    items.push(first)?;
-    while let Some((_, after)) = next(rest, Mark::Comma) {
-        let (other, after) = item(alloc, after)?;
-        items.push(other)?;
-        rest = after;
-    }
-    Ok((items, rest))
+    separated(alloc, tokens, Mark::Comma, |part| item(alloc, part))
 }
 
 /// All columns, or items.

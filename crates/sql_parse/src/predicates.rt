@@ -8,6 +8,7 @@ ghost use Rattle.sql_parse.specs.reading.Predicates.{read_not, null_rest, betwee
 ghost use Rattle.sql_parse.specs.reading.Gives.{Gives};
 
 use crate::front::{Mark, ParseStop, expect, next, place_before};
+use crate::lists::separated;
 use crate::reserved::{AND, NOT, NULL};
 use crate::terms::{term, value};
 use lint_base::Items;
@@ -76,22 +77,13 @@ pub(crate) fn between_rest<'a>(
 }
 
 /// Values with commas between them.
-#[tactic(auto, using(crate::proofs::Separated::separated_rules, crate::proofs::Shorter::value_shorter))]
 fn listed_values<'a>(
     alloc: Global,
     tokens: &'a [Token],
 ) -> Result<(Items<TermTree>, &'a [Token]), ParseStop>
     ensures { Gives (read_separated is_comma read_value tokens.now) result }
 {
-    let (first, mut rest) = value(alloc, tokens)?;
-    let mut values = Items::new(alloc);
-    values.push(first)?;
-    while let Some((_, after)) = next(rest, Mark::Comma) {
-        let (other, after) = value(alloc, after)?;
-        values.push(other)?;
-        rest = after;
-    }
-    Ok((values, rest))
+    separated(alloc, tokens, Mark::Comma, |part| value(alloc, part))
 }
 
 /// What comes after IN and a parenthesis, where it is no subquery.

@@ -5,6 +5,7 @@ ghost use Rattle.sql_parse.specs.reading.Terms.{read_name, read_names, read_alia
 ghost use Rattle.sql_parse.specs.reading.Gives.{Gives};
 
 use crate::front::{Mark, ParseStop, at, expect, next, place_before};
+use crate::lists::separated;
 use crate::reserved::{AS, NULL};
 use lint_base::{Items, Span};
 use sql_lex::{Kind, Sign, Token};
@@ -256,22 +257,13 @@ pub(crate) fn term<'a>(
 }
 
 /// Names with commas between them.
-#[tactic(auto, using(crate::proofs::Separated::separated_rules, crate::proofs::Shorter::name_shorter))]
 fn listed_names<'a>(
     alloc: Global,
     tokens: &'a [Token],
 ) -> Result<(Items<NameTree>, &'a [Token]), ParseStop>
     ensures { Gives (read_separated is_comma read_name tokens.now) result }
 {
-    let (first, mut rest) = name(alloc, tokens)?;
-    let mut names = Items::new(alloc);
-    names.push(first)?;
-    while let Some((_, after)) = next(rest, Mark::Comma) {
-        let (other, after) = name(alloc, after)?;
-        names.push(other)?;
-        rest = after;
-    }
-    Ok((names, rest))
+    separated(alloc, tokens, Mark::Comma, |part| name(alloc, part))
 }
 
 /// Names in parentheses.

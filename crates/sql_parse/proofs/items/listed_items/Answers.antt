@@ -1,9 +1,11 @@
-use Rattle.sql_parse.specs.reading.Tokens.{is_comma}
+use Rattle.std.proofs.Common.{rules, of_calls}
 use Rattle.sql_parse.specs.reading.Items.{read_item}
-use Rattle.sql_parse.proofs.Separated.{gathered_smaller}
+use Rattle.sql_parse.proofs.Separated.{gives_shorter}
 use Rattle.sql_parse.proofs.Shorter.{item_shorter}
 use Rattle.sql_parse.proofs.items.listed_items.Goals as goal
 
-pub loop-after-smaller : goal.loop-after-smaller
-loop-after-smaller c =
-    gathered_smaller is_comma read_item item_shorter c.loop-after.rest.now c.in-Some.after.now c.in_ok-other.after.now c.in-Some.field-0-0.now c.in_ok-other.other c.in-Some.ensures.1 c.in_ok-other.ensures
+pub separated-requires : goal.separated-requires
+separated-requires c κs = search (rules, of_calls, gives_shorter read_item item_shorter) parts 8
+
+pub returns : goal.returns
+returns c = c.separated.ensures read_item item_shorter (λ at r post. search rules)
