@@ -24,3 +24,14 @@ pub mod Complete
 pub mod GrammarExamples
 pub mod GrammarBegins
 pub mod GrammarRefused
+pub mod SoundTokens
+pub mod SoundTerms
+pub mod SoundItems
+pub mod SoundFlat
+pub mod SoundPredicates
+pub mod SoundSelects
+pub mod SoundQueries
+pub mod SoundTypes
+pub mod SoundReferences
+pub mod SoundTables
+pub mod Sound
