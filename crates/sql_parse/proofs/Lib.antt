@@ -14,12 +14,16 @@ pub mod CompleteSelects
 pub mod CompleteTables
 pub mod CompleteTerms
 pub mod CompleteTokens
+pub mod Conditions
 pub mod Ends
 pub mod GrammarBegins
 pub mod GrammarExamples
 pub mod GrammarRefused
+pub mod Groups
 pub mod LastEnds
+pub mod Loops
 pub mod Places
+pub mod PredicateParts
 pub mod Rules
 pub mod SchemaAnswers
 pub mod Separated

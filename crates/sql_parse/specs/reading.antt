@@ -1,5 +1,6 @@
 pub mod Tokens
 pub mod Gives
+pub mod Operators
 pub mod Separated
 pub mod Leaves
 pub mod Terms

@@ -1,7 +1,6 @@
 //! x
 #![tactic(auto)]
 
-mod conditions_stub;
 mod front;
 mod grammar_laws;
 mod items;
@@ -12,6 +11,7 @@ mod predicates;
 mod refusals;
 mod reserved;
 mod schemas;
+mod selects;
 mod tables;
 mod terms;
 mod words;
@@ -19,3 +19,6 @@ mod words;
 pub use grammar_laws::{grammar_examples, grammar_words_are_reserved};
 pub use one_tree::{one_condition, one_predicate, one_query, one_schema, one_term};
 pub use schemas::parse_schema;
+
+#[cfg(test)]
+mod schema_tests;

@@ -7,10 +7,10 @@ ghost use Rattle.sql_parse.specs.reading.Gives.{Gives, GivesToken};
 ghost use Rattle.sql_parse.specs.reading.Leaves.{Leaves, GivesAlone, alone};
 ghost use Rattle.sql_parse.specs.reading.Tables.{read_length, character_rest, read_type, read_default, read_constraint, is_set_value, is_event, read_action, read_event, read_actions, read_one_name, read_target, read_reference, foreign_tree, begins_rule, read_check, word_rule, read_column_rule, read_named_rule, read_rules, read_table_rule, read_declared_column, read_element, read_elements, read_create};
 
-use crate::conditions_stub::condition;
 use crate::front::{Mark, Nesting, ParseStop, at, expect, is, next};
 use crate::lists::separated;
 use crate::reserved::{CHECK, CONSTRAINT, CREATE, FOREIGN, NOT, NULL, ON, PRIMARY, REFERENCES, TABLE, UNIQUE};
+use crate::selects::condition;
 use crate::terms::{name, names, number, value};
 use crate::words::{expect_called, is_called, next_called};
 use lint_base::{Items, NoMemory, Span};
@@ -233,7 +233,7 @@ fn check<'a>(alloc: Global, depth: usize, tokens: &'a [Token]) -> Result<(CondTr
 {
     let (_, rest) = expect(tokens, CHECK)?;
     let (_, rest) = expect(rest, Mark::Open)?;
-    let (tree, rest) = condition(alloc, rest, Nesting { flat: true, depth })?;
+    let (tree, rest) = condition(alloc, Nesting { flat: true, depth }, rest)?;
     let (_, rest) = expect(rest, Mark::Close)?;
     Ok((tree, rest))
 }
