@@ -125,7 +125,7 @@ fn end_of(from: u32, tokens: &[Token]) -> u32
 }
 
 /// From the first token to the last.
-fn span_of(tokens: &[Token]) -> Span
+pub(crate) fn span_of(tokens: &[Token]) -> Span
     ensures { result ≡ span_of tokens.now }
 {
     match tokens.split_first() {
