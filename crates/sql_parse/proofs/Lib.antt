@@ -1,4 +1,5 @@
 pub mod Called
+pub mod Collected
 pub mod Complete
 pub mod CompleteConditions
 pub mod CompleteFlat
@@ -23,7 +24,9 @@ pub mod LastEnds
 pub mod Loops
 pub mod Places
 pub mod PredicateParts
+pub mod QueryAnswers
 pub mod Rules
+pub mod SchemaAnswers
 pub mod Separated
 pub mod Shorter
 pub mod Sound
@@ -37,3 +40,4 @@ pub mod SoundTables
 pub mod SoundTerms
 pub mod SoundTokens
 pub mod SoundTypes
+pub mod Statements

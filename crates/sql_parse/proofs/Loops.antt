@@ -1,6 +1,6 @@
 -- Reading part after part, as the loops of tables and schemas do.
 use Rattle.std.proofs.Common.{◌≡◌, ℕ, suc, ◌+◌, ◌<◌, ◌≤◌, Bool, true, false, List, [], ◌∷◌, ◌++◌, length, Option, Some, None, refl, sym, ap, ◌∙◌, append_assoc, arith}
-use Rattle.std.proofs.lemmas.List.{append-nil, length-append}
+use Rattle.std.proofs.lemmas.List.{append-nil}
 use Rattle.sql_lex.specs.declared.token.Token.{Token}
 use Rattle.sql_parse.specs.declared.front.ParseStop.{ParseStop}
 use Rattle.sql_parse.specs.declared.front.ParseStop.TheVariants as stop
@@ -49,27 +49,6 @@ module _ {A B : Type 0} (begins : List Token → Bool) (read : ℕ → List Toke
   unfolding and_then
   ends so_far count rest b =
       ap (λ (f : Read (List A)). and_then f (λ parts after. k (so_far ++ parts) after)) (parts_end begins read count rest b) ∙ rw (append-nil so_far) refl
-
--- what is read of the rest, after these parts
-abbrev pub collected : {A : Type 0} → (List Token → Bool) → (ℕ → List Token → Read (List A)) → List A → List Token → Read (List A)
-collected begins read so_far rest = from_here begins read (λ parts after. found parts after) so_far (length so_far) rest
-
-then_found : {A : Type 0} (f : Read A) → and_then f (λ a rest. found a rest) ≡ f
-unfolding and_then
-then_found None = refl
-then_found (Some r) = refl
-
-pub collected_start : {A : Type 0} (begins : List Token → Bool) (read : ℕ → List Token → Read (List A)) (none : List A) (tokens : List Token) → none ≡ [] → collected begins read none tokens ≡ read_parts begins read 0 tokens
-collected_start begins read none tokens e = ap (λ so_far. collected begins read so_far tokens) e ∙ then_found (read_parts begins read 0 tokens)
-
-pub collected_step : {A : Type 0} (begins : List Token → Bool) (read : ℕ → List Token → Read (List A)) → ((count : ℕ) (tokens : List Token) → Below (length tokens) (read count tokens)) →
-    (so_far longer part : List A) (rest left : List Token) → begins rest ≡ true → read (length so_far) rest ≡ found part left → longer ≡ so_far ++ part →
-    collected begins read longer left ≡ collected begins read so_far rest
-collected_step begins read shorter so_far longer part rest left b e is =
-    let count : length longer ≡ length so_far + length part = ap length is ∙ length-append so_far part in
-    ap (λ n. from_here begins read (λ parts after. found parts after) longer n left) count
-    ∙ ap (λ parts. from_here begins read (λ parts after. found parts after) parts (length so_far + length part) left) is
-    ∙ sym (goes_on begins read (λ parts after. found parts after) shorter so_far part (length so_far) rest left b e)
 
 pub stops_whole : {A : Type 0} (stop : ParseStop) (f g : Read A) → f ≡ g → Stops f stop → Stops g stop
 stops_whole (stop.Syntax n) f g e h = sym e ∙ h

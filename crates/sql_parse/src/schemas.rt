@@ -27,6 +27,7 @@ fn statement<'a>(alloc: Global, depth: usize, tokens: &'a [Token]) -> Result<(Op
 }
 
 /// Statements with semicolons between them: the tables that they declare.
+#[tactic(auto, using(crate::proofs::Statements::statement_rules))]
 fn statements<'a>(alloc: Global, depth: usize, tokens: &'a [Token]) -> Result<(Items<CreateTable>, &'a [Token]), ParseStop>
     ensures { Gives (read_schema depth tokens.now) result }
 {

@@ -7,9 +7,10 @@ ghost use Rattle.sql_parse.specs.reading.Gives.{Gives, GivesToken};
 ghost use Rattle.sql_parse.specs.reading.Leaves.{Leaves, GivesAlone, alone};
 ghost use Rattle.sql_parse.specs.reading.Tables.{read_length, character_rest, read_type, read_default, read_constraint, is_set_value, is_event, read_action, read_event, read_actions, read_one_name, read_target, read_reference, foreign_tree, begins_rule, read_check, word_rule, read_column_rule, read_named_rule, read_rules, read_table_rule, read_declared_column, read_element, read_elements, read_create};
 
-use crate::selects::condition;
 use crate::front::{Mark, Nesting, ParseStop, at, expect, is, next};
+use crate::lists::separated;
 use crate::reserved::{CHECK, CONSTRAINT, CREATE, FOREIGN, NOT, NULL, ON, PRIMARY, REFERENCES, TABLE, UNIQUE};
+use crate::selects::condition;
 use crate::terms::{name, names, number, value};
 use crate::words::{expect_called, is_called, next_called};
 use lint_base::{Items, NoMemory, Span};
@@ -425,19 +426,10 @@ fn element<'a>(alloc: Global, depth: usize, tokens: &'a [Token]) -> Result<(Elem
 }
 
 /// Elements with commas between them.
-#[tactic(auto, using(crate::proofs::Separated::separated_rules, crate::proofs::Shorter::element_shorter))]
 fn listed_elements<'a>(alloc: Global, depth: usize, tokens: &'a [Token]) -> Result<(Items<Element>, &'a [Token]), ParseStop>
     ensures { Gives (read_separated is_comma (read_element depth) tokens.now) result }
 {
-    let (first, mut rest) = element(alloc, depth, tokens)?;
-    let mut elements = Items::new(alloc);
-    elements.push(first)?;
-    while let Some((_, after)) = next(rest, Mark::Comma) {
-        let (other, after) = element(alloc, depth, after)?;
-        elements.push(other)?;
-        rest = after;
-    }
-    Ok((elements, rest))
+    separated(alloc, tokens, Mark::Comma, |part| element(alloc, depth, part))
 }
 
 /// The elements of a table, in parentheses.

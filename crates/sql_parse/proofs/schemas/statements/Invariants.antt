@@ -1,12 +1,9 @@
-use Rattle.std.proofs.Common.{◌≡◌, ℕ, length}
-use Rattle.sql_parse.specs.reading.Tokens.{found, at_head, is_semicolon}
-use Rattle.sql_parse.specs.reading.Schemas.{read_next_statement, read_schema}
-use Rattle.sql_parse.proofs.Loops.{from_here}
+use Rattle.std.proofs.Common.{length}
+use Rattle.sql_parse.proofs.Statements.{Continues}
 use Rattle.sql_parse.proofs.schemas.statements.Given as goal
 
--- the statements do not depend on how many were before
 abbrev pub invariant-loop-after : goal.invariant-loop-after
-invariant-loop-after l = (count : ℕ) × (from_here (at_head is_semicolon) (read_next_statement l.depth) (λ parts after. found parts after) l.tables count l.rest ≡ read_schema l.depth l.tokens)
+invariant-loop-after l = Continues l.depth l.tokens l.tables l.rest
 
 abbrev pub decreases-loop-after : goal.decreases-loop-after
 decreases-loop-after l = length l.rest

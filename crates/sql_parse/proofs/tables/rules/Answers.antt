@@ -4,7 +4,7 @@ use Rattle.sql_parse.specs.reading.Tokens.{found, at_head}
 use Rattle.sql_parse.specs.reading.Leaves.{alone}
 use Rattle.sql_parse.specs.reading.Tables.{begins_rule, read_named_rule, read_rules}
 use Rattle.sql_parse.proofs.Shorter.{named_rule_below, named_rule_shorter}
-use Rattle.sql_parse.proofs.Loops.{collected_start, collected_step, stops, ends, stops_whole}
+use Rattle.sql_parse.proofs.Collected.{collected_start, collected_step, stops, ends, stops_whole}
 use Rattle.sql_parse.proofs.tables.rules.Goals as goal
 
 pub loop-alloc-init : goal.loop-alloc-init

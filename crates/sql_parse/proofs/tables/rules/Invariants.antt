@@ -1,7 +1,7 @@
 use Rattle.std.proofs.Common.{◌≡◌, length}
 use Rattle.sql_parse.specs.reading.Tokens.{at_head}
 use Rattle.sql_parse.specs.reading.Tables.{begins_rule, read_named_rule, read_rules}
-use Rattle.sql_parse.proofs.Loops.{collected}
+use Rattle.sql_parse.proofs.Collected.{collected}
 use Rattle.sql_parse.proofs.tables.rules.Given as goal
 
 abbrev pub invariant-loop-alloc : goal.invariant-loop-alloc
