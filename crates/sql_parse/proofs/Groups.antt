@@ -101,8 +101,8 @@ module _ (flat : Bool) (depth : ℕ) where
       ap (λ (n : ℕ). from_here (at_head is_comma) one_group (λ parts left. found parts left) longer n rest) more
       ∙ ap (λ (l : List EntryTree). from_here (at_head is_comma) one_group (λ parts left. found parts left) l (length so_far + length part) rest) is
       ∙ sym
-        (goes_on (at_head is_comma) one_group (λ parts left. found parts left) one_group_below so_far part (length so_far) tokens rest head
-        (after (read_group flat self (length so_far)) tokens inside rest t part e h'))
+      (goes_on (at_head is_comma) one_group (λ parts left. found parts left) one_group_below so_far part (length so_far) tokens rest head
+      (after (read_group flat self (length so_far)) tokens inside rest t part e h'))
 
   pub groups_end : (so_far : List EntryTree) (tokens : List Token) → at_head is_comma tokens ≡ false → with_groups so_far tokens ≡ found so_far tokens
   unfolding with_groups

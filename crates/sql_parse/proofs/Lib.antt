@@ -24,6 +24,7 @@ pub mod LastEnds
 pub mod Loops
 pub mod Places
 pub mod PredicateParts
+pub mod QueryAnswers
 pub mod Rules
 pub mod SchemaAnswers
 pub mod Separated

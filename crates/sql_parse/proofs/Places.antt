@@ -1,12 +1,10 @@
--- The place of a token among others, and the one behind the last.
-use Rattle.std.proofs.Common.{◌≡◌, ℕ, suc, ◌<◌, ◌≤◌, ◌-◌, List, [], ◌∷◌, ◌++◌, length, take, drop, get_or, slice_get, Some, refl, sym, ap, ◌∙◌, inl, inr, arith}
+-- The place of a token among others.
+use Rattle.std.proofs.Common.{◌≡◌, ℕ, suc, ◌<◌, ◌≤◌, List, ◌∷◌, ◌++◌, length, take, drop, get_or, refl, sym, ap, ◌∙◌, inl, arith}
 use Rattle.std.proofs.lemmas.List.{take-append-drop, length-take-le}
-use Rattle.std.proofs.lemmas.Option.{get_or_from_slice_get}
 use Rattle.std.proofs.Math.Seq.{drop-cons}
 use Rattle.lint_base.specs.declared.place.Span.{Span}
 use Rattle.lint_base.specs.declared.place.Fault.TheVariants.{Long}
 use Rattle.sql_lex.specs.declared.token.Token.{Token}
-use Rattle.sql_parse.specs.grammar.Words.{end_of}
 use Rattle.sql_parse.specs.Refusals.{IsPlace, IsNoQuery, long}
 
 -- the tokens before a token, and those from it on
@@ -20,13 +18,3 @@ some_place tokens i t within is = inl (take i tokens, t, drop (suc i) tokens, sp
 
 pub is_long : (tokens : List Token) (t : Token) → 4096 < length tokens → t ≡ get_or tokens 4096 t → IsNoQuery tokens (record { fault = Long; span = t.span; count = length tokens })
 is_long tokens t within is = let few : 4096 ≤ length tokens = omega arith in long (take 4096 tokens) t (drop 4097 tokens) (split_at tokens 4096 t within is) (length-take-le 4096 tokens few) refl
-
-end_of-get : (end : ℕ) (x : Token) (rest : List Token) (d : Token) → end_of end (x ∷ rest) ≡ (get_or (x ∷ rest) (length rest) d).span.to
-end_of-get end x [] d = refl
-end_of-get end x (y ∷ rest) d = end_of-get x.span.to y rest d
-
-pub end_of-last : (end : ℕ) (tokens : List Token) (t : Token) → slice_get tokens (length tokens - 1) ≡ Some t → end_of end tokens ≡ t.span.to
-end_of-last end [] t is = cc
-end_of-last end (x ∷ rest) t is =
-    let same : length (x ∷ rest) - 1 ≡ length rest = omega arith in
-    end_of-get end x rest t ∙ ap (λ (n : ℕ). (get_or (x ∷ rest) n t).span.to) (sym same) ∙ ap (λ (k : Token). k.span.to) (get_or_from_slice_get (x ∷ rest) (length (x ∷ rest) - 1) t t is)

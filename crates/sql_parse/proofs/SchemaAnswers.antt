@@ -19,7 +19,7 @@ none_spelled tokens none tables spelled =
     let read = schema_complete tables tokens spelled in
     cc
 
-refusal_is : (refusal : Refusal) → refusal.fault ≡ Syntax → refusal.count ≡ 0 → refusal ≡ record { fault = Syntax; span = refusal.span; count = 0 }
+pub refusal_is : (refusal : Refusal) → refusal.fault ≡ Syntax → refusal.count ≡ 0 → refusal ≡ record { fault = Syntax; span = refusal.span; count = 0 }
 refusal_is refusal fault count = rw (← fault, ← count) refl
 
 pub no_schema : (tokens : List Token) (refusal : Refusal) → too_deep tokens ≡ None → schema_of tokens ≡ None → refusal.fault ≡ Syntax → IsPlace tokens refusal.span → refusal.count ≡ 0 → IsNoSchema tokens refusal

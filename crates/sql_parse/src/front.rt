@@ -115,7 +115,7 @@ pub(crate) fn expect(tokens: &[Token], mark: Mark) -> Result<(&Token, &[Token]),
 
 /// Where the last of the tokens ends.
 #[tactic(auto, using(crate::proofs::Ends::end_rules))]
-fn end_of(from: u32, tokens: &[Token]) -> u32
+pub(crate) fn end_of(from: u32, tokens: &[Token]) -> u32
     ensures { result ≡ end_of from tokens.now }
 {
     match tokens.split_last() {
@@ -125,7 +125,7 @@ fn end_of(from: u32, tokens: &[Token]) -> u32
 }
 
 /// From the first token to the last.
-fn span_of(tokens: &[Token]) -> Span
+pub(crate) fn span_of(tokens: &[Token]) -> Span
     ensures { result ≡ span_of tokens.now }
 {
     match tokens.split_first() {

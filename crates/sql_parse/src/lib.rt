@@ -8,6 +8,7 @@ mod lists;
 mod one_tree;
 mod orders;
 mod predicates;
+mod queries;
 mod refusals;
 mod reserved;
 mod schemas;
@@ -18,6 +19,7 @@ mod words;
 
 pub use grammar_laws::{grammar_examples, grammar_words_are_reserved};
 pub use one_tree::{one_condition, one_predicate, one_query, one_schema, one_term};
+pub use queries::parse_query;
 pub use schemas::parse_schema;
 
 #[cfg(test)]

@@ -1,9 +1,9 @@
 //! Why tokens are refused, and where.
 ghost use Rattle.std.specs.Prelude.{◌≡◌, ◌<◌, ◌≤◌, ◌^◌, length, IfSome, IsNone};
 ghost use Rattle.lint_base.specs.declared.place.Fault.TheVariants as fault;
-ghost use Rattle.sql_parse.specs.grammar.Words.{end_of};
 ghost use Rattle.sql_parse.specs.Refusals.{open_after, too_deep, IsPlace, IsNoQuery};
 
+use crate::front::end_of;
 use lint_base::{Fault, Refusal, Span};
 use sql_lex::{Kind, Sign, Token};
 
@@ -27,7 +27,7 @@ fn open_after(opened: usize, kind: &Kind) -> usize
 
 /// The place of the first token behind which too many parentheses are open.
 #[tactic(auto, unfolding(crate::specs::Refusals::deep_from))]
-pub fn too_deep(tokens: &[Token]) -> Option<Span>
+pub(crate) fn too_deep(tokens: &[Token]) -> Option<Span>
     ensures { result ≡ too_deep tokens.now }
 {
     let mut opened = 0;
@@ -41,7 +41,7 @@ pub fn too_deep(tokens: &[Token]) -> Option<Span>
 }
 
 /// The refusal of a query of too many tokens.
-pub fn too_long(tokens: &[Token]) -> Option<Refusal>
+pub(crate) fn too_long(tokens: &[Token]) -> Option<Refusal>
     requires { length tokens.now < 2 ^ 32 }
     ensures long { IfSome result (λ refusal. IsNoQuery tokens.now refusal) }
     ensures few { IsNone result → length tokens.now ≤ 4096 }
@@ -55,23 +55,13 @@ pub fn too_long(tokens: &[Token]) -> Option<Refusal>
 }
 
 /// The refusal of parentheses that are too deep.
-pub fn deep_at(span: Span) -> Refusal
+pub(crate) fn deep_at(span: Span) -> Refusal
     ensures { result ≡ record { fault = fault.Deep; span = span; count = 0 } }
 {
     Refusal {
         fault: Fault::Deep,
         span,
         count: 0,
-    }
-}
-
-/// Where the last token ends.
-fn end_of(tokens: &[Token]) -> u32
-    ensures { result ≡ end_of 0 tokens.now }
-{
-    match tokens.last() {
-        Some(token) => token.span.to,
-        None => 0,
     }
 }
 
@@ -82,14 +72,14 @@ fn place_of(tokens: &[Token], left: usize) -> Span
     match tokens.get(tokens.len().saturating_sub(left)) {
         Some(token) => token.span,
         None => {
-            let end = end_of(tokens);
+            let end = end_of(0, tokens);
             Span { from: end, to: end }
         }
     }
 }
 
 /// The refusal of tokens whose reading stopped before the last `left` of them.
-pub fn syntax_at(tokens: &[Token], left: usize) -> Refusal
+pub(crate) fn syntax_at(tokens: &[Token], left: usize) -> Refusal
     ensures fault { result.fault ≡ fault.Syntax }
     ensures place { IsPlace tokens.now result.span }
     ensures count { result.count ≡ 0 }

@@ -12,7 +12,9 @@ ghost use Rattle.sql_parse.specs.reading.Operators.{GivesOperator};
 use crate::front::{Mark, Nesting, ParseStop, at, expect, next, place_before};
 use crate::items::{entry, items, quantifier};
 use crate::predicates::{between_rest, not_word, null_rest, values_rest};
-use crate::reserved::{AND, BETWEEN, CROSS, EXISTS, FROM, IN, INNER, IS, JOIN, NOT, ON, OR, SELECT, WHERE};
+use crate::reserved::{
+    AND, BETWEEN, CROSS, EXISTS, FROM, IN, INNER, IS, JOIN, NOT, ON, OR, SELECT, WHERE,
+};
 use crate::terms::term;
 use lint_base::{Items, Span};
 use lint_tables::Op;
@@ -22,7 +24,12 @@ use sqlite_items::Boxed;
 use std::alloc::Global;
 
 /// What a SELECT has beside its place.
-type Parts = (Option<Span>, Items<ItemTree>, Items<EntryTree>, Option<CondTree>);
+type Parts = (
+    Option<Span>,
+    Items<ItemTree>,
+    Items<EntryTree>,
+    Option<CondTree>,
+);
 
 /// One part alone is that part; more are joined by OR.
 fn any_of(parts: Items<CondTree>) -> CondTree
@@ -55,7 +62,13 @@ pub(crate) fn placed(parts: Parts, span: Span) -> SelectTree
     ensures { result ≡ placed parts span }
 {
     let (distinct, items, from, filter) = parts;
-    SelectTree { distinct, items, from, filter, span }
+    SelectTree {
+        distinct,
+        items,
+        from,
+        filter,
+        span,
+    }
 }
 
 /// Whether a join comes.
@@ -68,13 +81,26 @@ fn at_join(tokens: &[Token]) -> bool
 
 /// CROSS JOIN and an entry.
 #[tactic(auto, unfolding(crate::specs::reading::Selects::cross_joined, crate::specs::reading::Tokens::and_then, crate::specs::reading::Tokens::read_after))]
-fn cross_joined<'a>(alloc: Global, nesting: Nesting, first: u32, tokens: &'a [Token]) -> Result<(EntryTree, &'a [Token]), ParseStop>
+fn cross_joined<'a>(
+    alloc: Global,
+    nesting: Nesting,
+    first: u32,
+    tokens: &'a [Token],
+) -> Result<(EntryTree, &'a [Token]), ParseStop>
     ensures { Gives (cross_joined nesting.flat (read_cond nesting.flat nesting.depth) first tokens.now) result }
 {
     let (_, rest) = expect(tokens, CROSS)?;
     let (_, rest) = expect(rest, JOIN)?;
     let ((table, alias), rest) = entry(alloc, rest)?;
-    Ok((EntryTree { table, alias, on: None, first }, rest))
+    Ok((
+        EntryTree {
+            table,
+            alias,
+            on: None,
+            first,
+        },
+        rest,
+    ))
 }
 
 /// [ INNER ]
@@ -91,7 +117,12 @@ fn without_inner(tokens: &[Token]) -> Result<(bool, &[Token]), ParseStop>
 /// [ INNER ] JOIN, an entry, ON and a condition.
 #[cycle(nested)]
 #[tactic(auto, unfolding(crate::specs::reading::Selects::inner_joined, crate::specs::reading::Tokens::and_then, crate::specs::reading::Tokens::read_after))]
-fn inner_joined<'a>(alloc: Global, nesting: Nesting, first: u32, tokens: &'a [Token]) -> Result<(EntryTree, &'a [Token]), ParseStop>
+fn inner_joined<'a>(
+    alloc: Global,
+    nesting: Nesting,
+    first: u32,
+    tokens: &'a [Token],
+) -> Result<(EntryTree, &'a [Token]), ParseStop>
     ensures { Gives (inner_joined nesting.flat (read_cond nesting.flat nesting.depth) first tokens.now) result }
 {
     let (_, rest) = without_inner(tokens)?;
@@ -99,13 +130,26 @@ fn inner_joined<'a>(alloc: Global, nesting: Nesting, first: u32, tokens: &'a [To
     let ((table, alias), rest) = entry(alloc, rest)?;
     let (_, rest) = expect(rest, ON)?;
     let (tree, rest) = condition(alloc, nesting, rest)?;
-    Ok((EntryTree { table, alias, on: Some(tree), first }, rest))
+    Ok((
+        EntryTree {
+            table,
+            alias,
+            on: Some(tree),
+            first,
+        },
+        rest,
+    ))
 }
 
 /// A join.
 #[cycle(nested)]
 #[tactic(auto, unfolding(crate::specs::reading::Selects::read_join))]
-fn join<'a>(alloc: Global, nesting: Nesting, first: u32, tokens: &'a [Token]) -> Result<(EntryTree, &'a [Token]), ParseStop>
+fn join<'a>(
+    alloc: Global,
+    nesting: Nesting,
+    first: u32,
+    tokens: &'a [Token],
+) -> Result<(EntryTree, &'a [Token]), ParseStop>
     ensures { Gives (read_join nesting.flat (read_cond nesting.flat nesting.depth) first tokens.now) result }
 {
     if at(tokens, CROSS) {
@@ -117,12 +161,22 @@ fn join<'a>(alloc: Global, nesting: Nesting, first: u32, tokens: &'a [Token]) ->
 /// An entry with its joins, from the entry of this number on.
 #[cycle(nested)]
 #[tactic(auto, using(crate::proofs::Groups::group_rules))]
-fn group<'a>(alloc: Global, nesting: Nesting, first: u32, tokens: &'a [Token]) -> Result<(Items<EntryTree>, &'a [Token]), ParseStop>
+fn group<'a>(
+    alloc: Global,
+    nesting: Nesting,
+    first: u32,
+    tokens: &'a [Token],
+) -> Result<(Items<EntryTree>, &'a [Token]), ParseStop>
     ensures { Gives (read_group nesting.flat (read_cond nesting.flat nesting.depth) first tokens.now) result }
 {
     let ((table, alias), mut rest) = entry(alloc, tokens)?;
     let mut entries = Items::new(alloc);
-    entries.push(EntryTree { table, alias, on: None, first })?;
+    entries.push(EntryTree {
+        table,
+        alias,
+        on: None,
+        first,
+    })?;
     'joins: while at_join(rest) {
         let (joined, after) = join(alloc, nesting, first, rest)?;
         entries.push(joined)?;
@@ -143,7 +197,10 @@ fn count_of(entries: &Items<EntryTree>) -> Result<u32, ParseStop>
 }
 
 /// All of the one and then all of the other.
-fn joined(entries: Items<EntryTree>, others: Items<EntryTree>) -> Result<Items<EntryTree>, ParseStop>
+fn joined(
+    entries: Items<EntryTree>,
+    others: Items<EntryTree>,
+) -> Result<Items<EntryTree>, ParseStop>
     ensures both { IfOk result (λ all. all ≡ entries ++ others) }
     ensures refused { IfErr result (λ e. e ≡ stop.NoMemory) }
 {
@@ -156,7 +213,11 @@ fn joined(entries: Items<EntryTree>, others: Items<EntryTree>) -> Result<Items<E
 /// The groups of FROM.
 #[cycle(nested)]
 #[tactic(auto, using(crate::proofs::Groups::group_rules))]
-fn groups<'a>(alloc: Global, nesting: Nesting, tokens: &'a [Token]) -> Result<(Items<EntryTree>, &'a [Token]), ParseStop>
+fn groups<'a>(
+    alloc: Global,
+    nesting: Nesting,
+    tokens: &'a [Token],
+) -> Result<(Items<EntryTree>, &'a [Token]), ParseStop>
     ensures { Gives (read_groups nesting.flat (read_cond nesting.flat nesting.depth) tokens.now) result }
 {
     let (mut entries, mut rest) = group(alloc, nesting, 0, tokens)?;
@@ -172,7 +233,11 @@ fn groups<'a>(alloc: Global, nesting: Nesting, tokens: &'a [Token]) -> Result<(I
 /// [ WHERE condition ]
 #[cycle(nested)]
 #[tactic(auto, unfolding(crate::specs::reading::Selects::read_where, crate::specs::reading::Tokens::and_then, crate::specs::reading::Tokens::read_after))]
-fn filter<'a>(alloc: Global, nesting: Nesting, tokens: &'a [Token]) -> Result<(Option<CondTree>, &'a [Token]), ParseStop>
+fn filter<'a>(
+    alloc: Global,
+    nesting: Nesting,
+    tokens: &'a [Token],
+) -> Result<(Option<CondTree>, &'a [Token]), ParseStop>
     ensures { Gives (read_where nesting.flat (read_cond nesting.flat nesting.depth) tokens.now) result }
 {
     if let Some((_, rest)) = next(tokens, WHERE) {
@@ -185,7 +250,12 @@ fn filter<'a>(alloc: Global, nesting: Nesting, tokens: &'a [Token]) -> Result<(O
 /// A SELECT, with no DISTINCT where it is scalar.
 #[cycle(nested)]
 #[tactic(auto, unfolding(crate::specs::reading::Selects::read_select, crate::specs::reading::Tokens::and_then, crate::specs::reading::Tokens::read_after))]
-pub(crate) fn select<'a>(alloc: Global, nesting: Nesting, scalar: bool, tokens: &'a [Token]) -> Result<(Parts, &'a [Token]), ParseStop>
+pub(crate) fn select<'a>(
+    alloc: Global,
+    nesting: Nesting,
+    scalar: bool,
+    tokens: &'a [Token],
+) -> Result<(Parts, &'a [Token]), ParseStop>
     ensures { Gives (read_select nesting.flat (read_cond nesting.flat nesting.depth) scalar tokens.now) result }
 {
     let (_, rest) = expect(tokens, SELECT)?;
@@ -200,7 +270,12 @@ pub(crate) fn select<'a>(alloc: Global, nesting: Nesting, scalar: bool, tokens: 
 /// A SELECT in parentheses.
 #[cycle(nested)]
 #[tactic(auto, unfolding(crate::specs::reading::Selects::read_subquery, crate::specs::reading::Tokens::and_then, crate::specs::reading::Tokens::read_after))]
-fn subquery<'a>(alloc: Global, nesting: Nesting, scalar: bool, tokens: &'a [Token]) -> Result<(SelectTree, &'a [Token]), ParseStop>
+fn subquery<'a>(
+    alloc: Global,
+    nesting: Nesting,
+    scalar: bool,
+    tokens: &'a [Token],
+) -> Result<(SelectTree, &'a [Token]), ParseStop>
     ensures { Gives (read_subquery nesting.flat (read_cond nesting.flat nesting.depth) scalar tokens.now) result }
 {
     if nesting.flat {
@@ -218,7 +293,15 @@ fn operator(tokens: &[Token]) -> Option<(Op, &[Token])>
     ensures { GivesOperator tokens.now result }
 {
     match tokens.split_first() {
-        Some((Token { kind: Kind::Sign(Sign::Compare(op)), .. }, rest)) => Some((*op, rest)),
+        Some(
+            (
+                Token {
+                    kind: Kind::Sign(Sign::Compare(op)),
+                    ..
+                },
+                rest,
+            ),
+        ) => Some((*op, rest)),
         _ => None,
     }
 }
@@ -226,24 +309,54 @@ fn operator(tokens: &[Token]) -> Option<(Op, &[Token])>
 /// What comes after the operator of a comparison.
 #[cycle(nested)]
 #[tactic(auto, unfolding(crate::specs::reading::Predicates::comparison_rest, crate::specs::reading::Tokens::and_then))]
-fn comparison_rest<'a>(alloc: Global, nesting: Nesting, tokens: &'a [Token], left: TermTree, op: Op, rest: &'a [Token]) -> Result<(CondTree, &'a [Token]), ParseStop>
+fn comparison_rest<'a>(
+    alloc: Global,
+    nesting: Nesting,
+    tokens: &'a [Token],
+    left: TermTree,
+    op: Op,
+    rest: &'a [Token],
+) -> Result<(CondTree, &'a [Token]), ParseStop>
     ensures { Gives (comparison_rest (read_subquery nesting.flat (read_cond nesting.flat nesting.depth)) tokens.now left op rest.now) result }
 {
     if at(rest, Mark::Open) {
         let (select, rest) = subquery(alloc, nesting, true, rest)?;
         let span = place_before(tokens, rest);
         let select = Boxed::new(alloc, select)?;
-        return Ok((CondTree::Scalar { op, left, select, span }, rest));
+        return Ok((
+            CondTree::Scalar {
+                op,
+                left,
+                select,
+                span,
+            },
+            rest,
+        ));
     }
     let (right, rest) = term(alloc, rest)?;
     let span = place_before(tokens, rest);
-    Ok((CondTree::Compare { op, left, right, span }, rest))
+    Ok((
+        CondTree::Compare {
+            op,
+            left,
+            right,
+            span,
+        },
+        rest,
+    ))
 }
 
 /// What comes after IN.
 #[cycle(nested)]
 #[tactic(auto, unfolding(crate::specs::reading::Predicates::in_rest, crate::specs::reading::Predicates::list_or_select, crate::specs::reading::Tokens::and_then))]
-fn in_rest<'a>(alloc: Global, nesting: Nesting, tokens: &'a [Token], term: TermTree, negated: bool, rest: &'a [Token]) -> Result<(CondTree, &'a [Token]), ParseStop>
+fn in_rest<'a>(
+    alloc: Global,
+    nesting: Nesting,
+    tokens: &'a [Token],
+    term: TermTree,
+    negated: bool,
+    rest: &'a [Token],
+) -> Result<(CondTree, &'a [Token]), ParseStop>
     ensures { Gives (in_rest (read_subquery nesting.flat (read_cond nesting.flat nesting.depth)) tokens.now term negated rest.now) result }
 {
     let (_, inside) = expect(rest, Mark::Open)?;
@@ -251,7 +364,15 @@ fn in_rest<'a>(alloc: Global, nesting: Nesting, tokens: &'a [Token], term: TermT
         let (select, rest) = subquery(alloc, nesting, false, rest)?;
         let span = place_before(tokens, rest);
         let select = Boxed::new(alloc, select)?;
-        return Ok((CondTree::InSelect { term, select, negated, span }, rest));
+        return Ok((
+            CondTree::InSelect {
+                term,
+                select,
+                negated,
+                span,
+            },
+            rest,
+        ));
     }
     values_rest(alloc, tokens, term, negated, inside)
 }
@@ -259,7 +380,14 @@ fn in_rest<'a>(alloc: Global, nesting: Nesting, tokens: &'a [Token], term: TermT
 /// BETWEEN or IN, after NOT or not.
 #[cycle(nested)]
 #[tactic(auto, unfolding(crate::specs::reading::Predicates::negatable, crate::specs::reading::Tokens::and_then))]
-fn negatable<'a>(alloc: Global, nesting: Nesting, tokens: &'a [Token], term: TermTree, negated: bool, rest: &'a [Token]) -> Result<(CondTree, &'a [Token]), ParseStop>
+fn negatable<'a>(
+    alloc: Global,
+    nesting: Nesting,
+    tokens: &'a [Token],
+    term: TermTree,
+    negated: bool,
+    rest: &'a [Token],
+) -> Result<(CondTree, &'a [Token]), ParseStop>
     ensures { Gives (negatable (read_subquery nesting.flat (read_cond nesting.flat nesting.depth)) tokens.now term negated rest.now) result }
 {
     if let Some((_, rest)) = next(rest, BETWEEN) {
@@ -272,7 +400,11 @@ fn negatable<'a>(alloc: Global, nesting: Nesting, tokens: &'a [Token], term: Ter
 /// A predicate that begins with a term.
 #[cycle(nested)]
 #[tactic(auto, using(crate::proofs::PredicateParts::predicate_rules))]
-fn predicate<'a>(alloc: Global, nesting: Nesting, tokens: &'a [Token]) -> Result<(CondTree, &'a [Token]), ParseStop>
+fn predicate<'a>(
+    alloc: Global,
+    nesting: Nesting,
+    tokens: &'a [Token],
+) -> Result<(CondTree, &'a [Token]), ParseStop>
     ensures { Gives (read_predicate (read_subquery nesting.flat (read_cond nesting.flat nesting.depth)) tokens.now) result }
 {
     let (term, rest) = term(alloc, tokens)?;
@@ -289,7 +421,11 @@ fn predicate<'a>(alloc: Global, nesting: Nesting, tokens: &'a [Token]) -> Result
 /// A condition in parentheses.
 #[cycle(nested)]
 #[tactic(auto, unfolding(crate::specs::reading::Selects::read_parenthesized, crate::specs::reading::Tokens::and_then, crate::specs::reading::Tokens::read_after))]
-fn parenthesized<'a>(alloc: Global, nesting: Nesting, tokens: &'a [Token]) -> Result<(CondTree, &'a [Token]), ParseStop>
+fn parenthesized<'a>(
+    alloc: Global,
+    nesting: Nesting,
+    tokens: &'a [Token],
+) -> Result<(CondTree, &'a [Token]), ParseStop>
     ensures { Gives (read_parenthesized nesting.flat (read_cond nesting.flat nesting.depth) tokens.now) result }
 {
     let (_, inside) = expect(tokens, Mark::Open)?;
@@ -301,7 +437,11 @@ fn parenthesized<'a>(alloc: Global, nesting: Nesting, tokens: &'a [Token]) -> Re
 /// EXISTS and a subquery.
 #[cycle(nested)]
 #[tactic(auto, unfolding(crate::specs::reading::Selects::read_exists, crate::specs::reading::Tokens::and_then, crate::specs::reading::Tokens::read_after))]
-fn exists<'a>(alloc: Global, nesting: Nesting, tokens: &'a [Token]) -> Result<(CondTree, &'a [Token]), ParseStop>
+fn exists<'a>(
+    alloc: Global,
+    nesting: Nesting,
+    tokens: &'a [Token],
+) -> Result<(CondTree, &'a [Token]), ParseStop>
     ensures { Gives (read_exists nesting.flat (read_cond nesting.flat nesting.depth) tokens.now) result }
 {
     let (_, rest) = expect(tokens, EXISTS)?;
@@ -314,7 +454,11 @@ fn exists<'a>(alloc: Global, nesting: Nesting, tokens: &'a [Token]) -> Result<(C
 /// What NOT stands before.
 #[cycle(nested)]
 #[tactic(auto, unfolding(crate::specs::reading::Selects::read_primary))]
-fn primary<'a>(alloc: Global, nesting: Nesting, tokens: &'a [Token]) -> Result<(CondTree, &'a [Token]), ParseStop>
+fn primary<'a>(
+    alloc: Global,
+    nesting: Nesting,
+    tokens: &'a [Token],
+) -> Result<(CondTree, &'a [Token]), ParseStop>
     ensures { Gives (read_primary nesting.flat (read_cond nesting.flat nesting.depth) tokens.now) result }
 {
     if at(tokens, Mark::Open) {
@@ -329,7 +473,11 @@ fn primary<'a>(alloc: Global, nesting: Nesting, tokens: &'a [Token]) -> Result<(
 /// A part of a conjunction.
 #[cycle(nested)]
 #[tactic(auto, unfolding(crate::specs::reading::Selects::read_factor, crate::specs::reading::Tokens::and_then, crate::specs::reading::Tokens::read_after))]
-fn factor<'a>(alloc: Global, nesting: Nesting, tokens: &'a [Token]) -> Result<(CondTree, &'a [Token]), ParseStop>
+fn factor<'a>(
+    alloc: Global,
+    nesting: Nesting,
+    tokens: &'a [Token],
+) -> Result<(CondTree, &'a [Token]), ParseStop>
     ensures { Gives (read_factor nesting.flat (read_cond nesting.flat nesting.depth) tokens.now) result }
 {
     if let Some((_, after)) = next(tokens, NOT) {
@@ -343,7 +491,11 @@ fn factor<'a>(alloc: Global, nesting: Nesting, tokens: &'a [Token]) -> Result<(C
 /// A part of a disjunction.
 #[cycle(nested)]
 #[tactic(auto, using(crate::proofs::Separated::separated_rules, crate::proofs::Shorter::factor_shorter, crate::proofs::Conditions::condition_rules))]
-fn conjunction<'a>(alloc: Global, nesting: Nesting, tokens: &'a [Token]) -> Result<(CondTree, &'a [Token]), ParseStop>
+fn conjunction<'a>(
+    alloc: Global,
+    nesting: Nesting,
+    tokens: &'a [Token],
+) -> Result<(CondTree, &'a [Token]), ParseStop>
     ensures { Gives (read_conjunction nesting.flat (read_cond nesting.flat nesting.depth) tokens.now) result }
 {
     let (first, mut rest) = factor(alloc, nesting, tokens)?;
@@ -360,13 +512,20 @@ fn conjunction<'a>(alloc: Global, nesting: Nesting, tokens: &'a [Token]) -> Resu
 /// A whole condition.
 #[cycle(nested)]
 #[tactic(auto, using(crate::proofs::Separated::separated_rules, crate::proofs::Shorter::conjunction_shorter, crate::proofs::Conditions::condition_rules), unfolding(crate::specs::reading::Selects::read_cond))]
-pub(crate) fn condition<'a>(alloc: Global, nesting: Nesting, tokens: &'a [Token]) -> Result<(CondTree, &'a [Token]), ParseStop>
+pub(crate) fn condition<'a>(
+    alloc: Global,
+    nesting: Nesting,
+    tokens: &'a [Token],
+) -> Result<(CondTree, &'a [Token]), ParseStop>
     ensures { Gives (read_cond nesting.flat nesting.depth tokens.now) result }
 {
     if nesting.depth == 0 {
         return Err(ParseStop::Syntax(tokens.len()));
     }
-    let inner = Nesting { flat: nesting.flat, depth: nesting.depth - 1 };
+    let inner = Nesting {
+        flat: nesting.flat,
+        depth: nesting.depth - 1,
+    };
     let (first, mut rest) = conjunction(alloc, inner, tokens)?;
     let mut parts = Items::new(alloc);
     parts.push(first)?;
