@@ -1,4 +1,4 @@
--- Reading part after part, as the loops of tables and schemas do.
+-- Reading part after part, as the loops over parts that are lists do.
 use Rattle.std.proofs.Common.{◌≡◌, ℕ, suc, ◌+◌, ◌<◌, ◌≤◌, Bool, true, false, List, [], ◌∷◌, ◌++◌, length, Option, Some, None, refl, sym, ap, ◌∙◌, append_assoc, arith}
 use Rattle.std.proofs.lemmas.List.{append-nil, length-append}
 use Rattle.sql_lex.specs.declared.token.Token.{Token}

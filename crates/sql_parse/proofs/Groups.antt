@@ -13,7 +13,7 @@ use Rattle.sql_parse.specs.reading.Items.{read_entry}
 use Rattle.sql_parse.specs.reading.Selects.{is_join, read_join, read_group, read_groups, read_cond}
 use Rattle.sql_parse.specs.reading.Gives.{Stops}
 use Rattle.sql_parse.proofs.Shorter.{Below, within, alone_below, after_below, join_below, group_below, cond_below, expect_shorter, join_shorter, group_shorter}
-use Rattle.sql_parse.proofs.Loops.{from_here, goes_on, stops, ends}
+use Rattle.sql_parse.proofs.Collected.{from_here, goes_on, stops, ends}
 use Rattle.sql_parse.proofs.Conditions.{stops_then}
 
 alone : {A : Type 0} (read : List Token → Read A) (count : ℕ) (tokens rest : List Token) (a : A) → read tokens ≡ found a rest → read_alone read count tokens ≡ found (a ∷ []) rest

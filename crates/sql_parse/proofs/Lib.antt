@@ -21,7 +21,6 @@ pub mod GrammarExamples
 pub mod GrammarRefused
 pub mod Groups
 pub mod LastEnds
-pub mod Loops
 pub mod Places
 pub mod PredicateParts
 pub mod QueryAnswers

@@ -34,9 +34,9 @@ pub continues_next : (depth : ℕ) (tokens : List Token) (tables longer part : L
 continues_next depth tokens tables longer part rest after left t begun e h is so_far = record {
   count = so_far.count + length part;
   whole =
-    ap (λ all. statements_from depth all (so_far.count + length part) left) is
-    ∙ sym (goes_on (at_head is_semicolon) (read_next_statement depth) (λ others after. found others after) (next_statement_below depth) tables part so_far.count rest left begun (after_semicolon depth so_far.count rest after t e ∙ h))
-    ∙ so_far.whole;
+      ap (λ all. statements_from depth all (so_far.count + length part) left) is
+      ∙ sym (goes_on (at_head is_semicolon) (read_next_statement depth) (λ others after. found others after) (next_statement_below depth) tables part so_far.count rest left begun (after_semicolon depth so_far.count rest after t e ∙ h))
+      ∙ so_far.whole;
 }
 
 pub continues_end : (depth : ℕ) (tokens : List Token) (tables : List CreateTable) (rest : List Token) → at_head is_semicolon rest ≡ false → Continues depth tokens tables rest → read_schema depth tokens ≡ found tables rest

@@ -70,7 +70,11 @@ fn is_name(name: &NameTree, stated: Named) -> bool {
 
 fn are_names(names: &Items<NameTree>, stated: &[Named]) -> bool {
     let names = names.as_slice();
-    names.len() == stated.len() && names.iter().zip(stated).all(|(name, other)| is_name(name, *other))
+    names.len() == stated.len()
+        && names
+            .iter()
+            .zip(stated)
+            .all(|(name, other)| is_name(name, *other))
 }
 
 fn is_type(tree: &TypeTree, stated: Type) -> bool {
@@ -114,7 +118,10 @@ fn is_element(tree: &Element, stated: Part) -> bool {
         (Element::Column { name, kind, rules }, Column(own, of, others)) => {
             let rules = rules.as_slice();
             let same = is_name(name, own) && is_type(kind, of) && rules.len() == others.len();
-            same && rules.iter().zip(others).all(|(rule, other)| is_rule(rule, *other))
+            same && rules
+                .iter()
+                .zip(others)
+                .all(|(rule, other)| is_rule(rule, *other))
         }
         (Element::Rule(rule), Rule(other)) => is_rule(rule, other),
         _ => false,
@@ -125,38 +132,255 @@ fn is_table(tree: &CreateTable, stated: (Named, &[Part])) -> bool {
     let (name, parts) = stated;
     let elements = tree.elements.as_slice();
     let same = is_name(&tree.name, name) && elements.len() == parts.len();
-    same && elements.iter().zip(parts).all(|(element, part)| is_element(element, *part))
+    same && elements
+        .iter()
+        .zip(parts)
+        .all(|(element, part)| is_element(element, *part))
 }
 
 /// Schemas, each with its tables.
 const SCHEMAS: [(&str, Tables); 27] = [
-    ("CREATE TABLE t (a SMALLINT)", &[(("T", 13, 14), &[Column(("A", 16, 17), Small, &[])])]),
-    ("CREATE TABLE t (a INTEGER)", &[(("T", 13, 14), &[Column(("A", 16, 17), Integer, &[])])]),
-    ("CREATE TABLE t (a INT)", &[(("T", 13, 14), &[Column(("A", 16, 17), Integer, &[])])]),
-    ("CREATE TABLE t (a BIGINT)", &[(("T", 13, 14), &[Column(("A", 16, 17), Big, &[])])]),
-    ("CREATE TABLE t (a VARCHAR(20))", &[(("T", 13, 14), &[Column(("A", 16, 17), Text(20, 26, 28), &[])])]),
-    ("CREATE TABLE t (a CHAR VARYING(20))", &[(("T", 13, 14), &[Column(("A", 16, 17), Text(20, 31, 33), &[])])]),
-    ("CREATE TABLE t (a CHARACTER VARYING(20))", &[(("T", 13, 14), &[Column(("A", 16, 17), Text(20, 36, 38), &[])])]),
-    ("CREATE TABLE t (a CHAR(20))", &[(("T", 13, 14), &[Column(("A", 16, 17), Text(20, 23, 25), &[])])]),
-    ("CREATE TABLE t (a CHARACTER (20))", &[(("T", 13, 14), &[Column(("A", 16, 17), Text(20, 29, 31), &[])])]),
-    ("CREATE TABLE t (a CHAR)", &[(("T", 13, 14), &[Column(("A", 16, 17), Text(1, 18, 22), &[])])]),
-    ("CREATE TABLE t (a character)", &[(("T", 13, 14), &[Column(("A", 16, 17), Text(1, 18, 27), &[])])]),
-    ("CREATE TABLE \"t\" (int INT, \"int\"\"x\" CHAR DEFAULT 'y', c INT DEFAULT NULL, d INT DEFAULT -1, e INT DEFAULT 1)", &[(("t", 13, 16), &[Column(("INT", 18, 21), Integer, &[]), Column(("int\"x", 27, 35), Text(1, 36, 40), &[]), Column(("C", 54, 55), Integer, &[]), Column(("D", 74, 75), Integer, &[]), Column(("E", 92, 93), Integer, &[])])]),
-    ("CREATE TABLE t (a INT NOT NULL, b INT NULL, c INT UNIQUE, d INT PRIMARY KEY, e INT CHECK (e > 0))", &[(("T", 13, 14), &[Column(("A", 16, 17), Integer, &[NotNull]), Column(("B", 32, 33), Integer, &[]), Column(("C", 44, 45), Integer, &[Unique(&[("C", 44, 45)])]), Column(("D", 58, 59), Integer, &[Primary(&[("D", 58, 59)], 64, 71)]), Column(("E", 77, 78), Integer, &[Check(90, 95)])])]),
-    ("CREATE TABLE t (a INT DEFAULT 1 CONSTRAINT x NOT NULL CONSTRAINT y NULL UNIQUE CONSTRAINT z PRIMARY KEY NOT NULL)", &[(("T", 13, 14), &[Column(("A", 16, 17), Integer, &[NotNull, Unique(&[("A", 16, 17)]), Primary(&[("A", 16, 17)], 92, 99), NotNull])])]),
-    ("CREATE TABLE t (a INT REFERENCES u, b INT CONSTRAINT x REFERENCES v (c) NOT NULL)", &[(("T", 13, 14), &[Column(("A", 16, 17), Integer, &[Foreign(&[("A", 16, 17)], ("U", 33, 34), &[], 22, 34)]), Column(("B", 36, 37), Integer, &[Foreign(&[("B", 36, 37)], ("V", 66, 67), &[("C", 69, 70)], 55, 70), NotNull])])]),
-    ("CREATE TABLE t (a INT REFERENCES u (b) ON DELETE CASCADE ON UPDATE CASCADE UNIQUE)", &[(("T", 13, 14), &[Column(("A", 16, 17), Integer, &[Foreign(&[("A", 16, 17)], ("U", 33, 34), &[("B", 36, 37)], 22, 37), Unique(&[("A", 16, 17)])])])]),
-    ("CREATE TABLE t (a INT REFERENCES u (b) ON DELETE RESTRICT ON UPDATE RESTRICT UNIQUE)", &[(("T", 13, 14), &[Column(("A", 16, 17), Integer, &[Foreign(&[("A", 16, 17)], ("U", 33, 34), &[("B", 36, 37)], 22, 37), Unique(&[("A", 16, 17)])])])]),
-    ("CREATE TABLE t (a INT REFERENCES u (b) ON DELETE SET NULL ON UPDATE SET NULL UNIQUE)", &[(("T", 13, 14), &[Column(("A", 16, 17), Integer, &[Foreign(&[("A", 16, 17)], ("U", 33, 34), &[("B", 36, 37)], 22, 37), Unique(&[("A", 16, 17)])])])]),
-    ("CREATE TABLE t (a INT REFERENCES u (b) ON DELETE SET DEFAULT ON UPDATE SET DEFAULT UNIQUE)", &[(("T", 13, 14), &[Column(("A", 16, 17), Integer, &[Foreign(&[("A", 16, 17)], ("U", 33, 34), &[("B", 36, 37)], 22, 37), Unique(&[("A", 16, 17)])])])]),
-    ("CREATE TABLE t (a INT REFERENCES u (b) ON DELETE NO ACTION ON UPDATE NO ACTION UNIQUE)", &[(("T", 13, 14), &[Column(("A", 16, 17), Integer, &[Foreign(&[("A", 16, 17)], ("U", 33, 34), &[("B", 36, 37)], 22, 37), Unique(&[("A", 16, 17)])])])]),
-    ("CREATE TABLE t (UNIQUE (a), CONSTRAINT x UNIQUE (a, b), PRIMARY KEY (a, b), CHECK (a < 0))", &[(("T", 13, 14), &[Rule(Unique(&[("A", 24, 25)])), Rule(Unique(&[("A", 49, 50), ("B", 52, 53)])), Rule(Primary(&[("A", 69, 70), ("B", 72, 73)], 56, 63)), Rule(Check(83, 88))])]),
-    ("CREATE TABLE t (FOREIGN KEY (a) REFERENCES u, CONSTRAINT x FOREIGN KEY (a, b) REFERENCES v (c, d) ON DELETE CASCADE, CONSTRAINT y PRIMARY KEY (b))", &[(("T", 13, 14), &[Rule(Foreign(&[("A", 29, 30)], ("U", 43, 44), &[], 16, 44)), Rule(Foreign(&[("A", 72, 73), ("B", 75, 76)], ("V", 89, 90), &[("C", 92, 93), ("D", 95, 96)], 59, 96)), Rule(Primary(&[("B", 143, 144)], 130, 137))])]),
+    (
+        "CREATE TABLE t (a SMALLINT)",
+        &[(("T", 13, 14), &[Column(("A", 16, 17), Small, &[])])],
+    ),
+    (
+        "CREATE TABLE t (a INTEGER)",
+        &[(("T", 13, 14), &[Column(("A", 16, 17), Integer, &[])])],
+    ),
+    (
+        "CREATE TABLE t (a INT)",
+        &[(("T", 13, 14), &[Column(("A", 16, 17), Integer, &[])])],
+    ),
+    (
+        "CREATE TABLE t (a BIGINT)",
+        &[(("T", 13, 14), &[Column(("A", 16, 17), Big, &[])])],
+    ),
+    (
+        "CREATE TABLE t (a VARCHAR(20))",
+        &[(
+            ("T", 13, 14),
+            &[Column(("A", 16, 17), Text(20, 26, 28), &[])],
+        )],
+    ),
+    (
+        "CREATE TABLE t (a CHAR VARYING(20))",
+        &[(
+            ("T", 13, 14),
+            &[Column(("A", 16, 17), Text(20, 31, 33), &[])],
+        )],
+    ),
+    (
+        "CREATE TABLE t (a CHARACTER VARYING(20))",
+        &[(
+            ("T", 13, 14),
+            &[Column(("A", 16, 17), Text(20, 36, 38), &[])],
+        )],
+    ),
+    (
+        "CREATE TABLE t (a CHAR(20))",
+        &[(
+            ("T", 13, 14),
+            &[Column(("A", 16, 17), Text(20, 23, 25), &[])],
+        )],
+    ),
+    (
+        "CREATE TABLE t (a CHARACTER (20))",
+        &[(
+            ("T", 13, 14),
+            &[Column(("A", 16, 17), Text(20, 29, 31), &[])],
+        )],
+    ),
+    (
+        "CREATE TABLE t (a CHAR)",
+        &[(
+            ("T", 13, 14),
+            &[Column(("A", 16, 17), Text(1, 18, 22), &[])],
+        )],
+    ),
+    (
+        "CREATE TABLE t (a character)",
+        &[(
+            ("T", 13, 14),
+            &[Column(("A", 16, 17), Text(1, 18, 27), &[])],
+        )],
+    ),
+    (
+        "CREATE TABLE \"t\" (int INT, \"int\"\"x\" CHAR DEFAULT 'y', c INT DEFAULT NULL, d INT DEFAULT -1, e INT DEFAULT 1)",
+        &[(
+            ("t", 13, 16),
+            &[
+                Column(("INT", 18, 21), Integer, &[]),
+                Column(("int\"x", 27, 35), Text(1, 36, 40), &[]),
+                Column(("C", 54, 55), Integer, &[]),
+                Column(("D", 74, 75), Integer, &[]),
+                Column(("E", 92, 93), Integer, &[]),
+            ],
+        )],
+    ),
+    (
+        "CREATE TABLE t (a INT NOT NULL, b INT NULL, c INT UNIQUE, d INT PRIMARY KEY, e INT CHECK (e > 0))",
+        &[(
+            ("T", 13, 14),
+            &[
+                Column(("A", 16, 17), Integer, &[NotNull]),
+                Column(("B", 32, 33), Integer, &[]),
+                Column(("C", 44, 45), Integer, &[Unique(&[("C", 44, 45)])]),
+                Column(("D", 58, 59), Integer, &[Primary(&[("D", 58, 59)], 64, 71)]),
+                Column(("E", 77, 78), Integer, &[Check(90, 95)]),
+            ],
+        )],
+    ),
+    (
+        "CREATE TABLE t (a INT DEFAULT 1 CONSTRAINT x NOT NULL CONSTRAINT y NULL UNIQUE CONSTRAINT z PRIMARY KEY NOT NULL)",
+        &[(
+            ("T", 13, 14),
+            &[Column(
+                ("A", 16, 17),
+                Integer,
+                &[
+                    NotNull,
+                    Unique(&[("A", 16, 17)]),
+                    Primary(&[("A", 16, 17)], 92, 99),
+                    NotNull,
+                ],
+            )],
+        )],
+    ),
+    (
+        "CREATE TABLE t (a INT REFERENCES u, b INT CONSTRAINT x REFERENCES v (c) NOT NULL)",
+        &[(
+            ("T", 13, 14),
+            &[
+                Column(
+                    ("A", 16, 17),
+                    Integer,
+                    &[Foreign(&[("A", 16, 17)], ("U", 33, 34), &[], 22, 34)],
+                ),
+                Column(
+                    ("B", 36, 37),
+                    Integer,
+                    &[
+                        Foreign(&[("B", 36, 37)], ("V", 66, 67), &[("C", 69, 70)], 55, 70),
+                        NotNull,
+                    ],
+                ),
+            ],
+        )],
+    ),
+    (
+        "CREATE TABLE t (a INT REFERENCES u (b) ON DELETE CASCADE ON UPDATE CASCADE UNIQUE)",
+        &[(
+            ("T", 13, 14),
+            &[Column(
+                ("A", 16, 17),
+                Integer,
+                &[
+                    Foreign(&[("A", 16, 17)], ("U", 33, 34), &[("B", 36, 37)], 22, 37),
+                    Unique(&[("A", 16, 17)]),
+                ],
+            )],
+        )],
+    ),
+    (
+        "CREATE TABLE t (a INT REFERENCES u (b) ON DELETE RESTRICT ON UPDATE RESTRICT UNIQUE)",
+        &[(
+            ("T", 13, 14),
+            &[Column(
+                ("A", 16, 17),
+                Integer,
+                &[
+                    Foreign(&[("A", 16, 17)], ("U", 33, 34), &[("B", 36, 37)], 22, 37),
+                    Unique(&[("A", 16, 17)]),
+                ],
+            )],
+        )],
+    ),
+    (
+        "CREATE TABLE t (a INT REFERENCES u (b) ON DELETE SET NULL ON UPDATE SET NULL UNIQUE)",
+        &[(
+            ("T", 13, 14),
+            &[Column(
+                ("A", 16, 17),
+                Integer,
+                &[
+                    Foreign(&[("A", 16, 17)], ("U", 33, 34), &[("B", 36, 37)], 22, 37),
+                    Unique(&[("A", 16, 17)]),
+                ],
+            )],
+        )],
+    ),
+    (
+        "CREATE TABLE t (a INT REFERENCES u (b) ON DELETE SET DEFAULT ON UPDATE SET DEFAULT UNIQUE)",
+        &[(
+            ("T", 13, 14),
+            &[Column(
+                ("A", 16, 17),
+                Integer,
+                &[
+                    Foreign(&[("A", 16, 17)], ("U", 33, 34), &[("B", 36, 37)], 22, 37),
+                    Unique(&[("A", 16, 17)]),
+                ],
+            )],
+        )],
+    ),
+    (
+        "CREATE TABLE t (a INT REFERENCES u (b) ON DELETE NO ACTION ON UPDATE NO ACTION UNIQUE)",
+        &[(
+            ("T", 13, 14),
+            &[Column(
+                ("A", 16, 17),
+                Integer,
+                &[
+                    Foreign(&[("A", 16, 17)], ("U", 33, 34), &[("B", 36, 37)], 22, 37),
+                    Unique(&[("A", 16, 17)]),
+                ],
+            )],
+        )],
+    ),
+    (
+        "CREATE TABLE t (UNIQUE (a), CONSTRAINT x UNIQUE (a, b), PRIMARY KEY (a, b), CHECK (a < 0))",
+        &[(
+            ("T", 13, 14),
+            &[
+                Rule(Unique(&[("A", 24, 25)])),
+                Rule(Unique(&[("A", 49, 50), ("B", 52, 53)])),
+                Rule(Primary(&[("A", 69, 70), ("B", 72, 73)], 56, 63)),
+                Rule(Check(83, 88)),
+            ],
+        )],
+    ),
+    (
+        "CREATE TABLE t (FOREIGN KEY (a) REFERENCES u, CONSTRAINT x FOREIGN KEY (a, b) REFERENCES v (c, d) ON DELETE CASCADE, CONSTRAINT y PRIMARY KEY (b))",
+        &[(
+            ("T", 13, 14),
+            &[
+                Rule(Foreign(&[("A", 29, 30)], ("U", 43, 44), &[], 16, 44)),
+                Rule(Foreign(
+                    &[("A", 72, 73), ("B", 75, 76)],
+                    ("V", 89, 90),
+                    &[("C", 92, 93), ("D", 95, 96)],
+                    59,
+                    96,
+                )),
+                Rule(Primary(&[("B", 143, 144)], 130, 137)),
+            ],
+        )],
+    ),
     ("", &[]),
     (";", &[]),
     (";;", &[]),
-    ("CREATE TABLE t (a INT);; CREATE TABLE u (b INT);", &[(("T", 13, 14), &[Column(("A", 16, 17), Integer, &[])]), (("U", 38, 39), &[Column(("B", 41, 42), Integer, &[])])]),
-    ("; create table t (a int)", &[(("T", 15, 16), &[Column(("A", 18, 19), Integer, &[])])]),
+    (
+        "CREATE TABLE t (a INT);; CREATE TABLE u (b INT);",
+        &[
+            (("T", 13, 14), &[Column(("A", 16, 17), Integer, &[])]),
+            (("U", 38, 39), &[Column(("B", 41, 42), Integer, &[])]),
+        ],
+    ),
+    (
+        "; create table t (a int)",
+        &[(("T", 15, 16), &[Column(("A", 18, 19), Integer, &[])])],
+    ),
 ];
 
 #[test]
@@ -165,7 +389,10 @@ fn schemas(rt: HostRuntime) -> Result<(), Fail> {
         let tables = tables_of(&rt, rt.alloc(), text)?;
         let tables = tables.as_slice();
         assert_eq!(rt; tables.len(), stated.len(), "{text}");
-        let same = tables.iter().zip(stated).all(|(table, other)| is_table(table, *other));
+        let same = tables
+            .iter()
+            .zip(stated)
+            .all(|(table, other)| is_table(table, *other));
         assert!(rt; same, "{text}");
     }
     Ok(())
@@ -203,9 +430,21 @@ fn refusals(rt: HostRuntime) {
         ("CREATE TABLE t (a INT UNIQUE (a))", 29, 30),
         ("CREATE TABLE t (a INT REFERENCES t (a, b))", 37, 38),
         ("CREATE TABLE t (a INT REFERENCES u ON DELETE)", 44, 45),
-        ("CREATE TABLE t (a INT REFERENCES u ON INSERT CASCADE)", 38, 44),
-        ("CREATE TABLE t (a INT REFERENCES u ON DELETE SET 1)", 49, 50),
-        ("CREATE TABLE t (a INT REFERENCES u ON DELETE NO CASCADE)", 48, 55),
+        (
+            "CREATE TABLE t (a INT REFERENCES u ON INSERT CASCADE)",
+            38,
+            44,
+        ),
+        (
+            "CREATE TABLE t (a INT REFERENCES u ON DELETE SET 1)",
+            49,
+            50,
+        ),
+        (
+            "CREATE TABLE t (a INT REFERENCES u ON DELETE NO CASCADE)",
+            48,
+            55,
+        ),
         ("CREATE TABLE t (a INT CHECK a > 0)", 28, 29),
         ("CREATE TABLE t (UNIQUE ())", 24, 25),
         ("CREATE TABLE t (UNIQUE a)", 23, 24),
@@ -250,8 +489,18 @@ fn parentheses(rt: HostRuntime) {
     let rows: [(&str, Fault, u32, u32); 4] = [
         ("((((((((((((((((((((((((((((((((", Fault::Syntax, 0, 1),
         ("(((((((((((((((((((((((((((((((((", Fault::Deep, 32, 33),
-        ("CREATE TABLE t ((((((((((((((((((((;; ((((((((((((((", Fault::Deep, 50, 51),
-        (")(((((((((((((((()))((((((((((((((((((((", Fault::Deep, 39, 40),
+        (
+            "CREATE TABLE t ((((((((((((((((((((;; ((((((((((((((",
+            Fault::Deep,
+            50,
+            51,
+        ),
+        (
+            ")(((((((((((((((()))((((((((((((((((((((",
+            Fault::Deep,
+            39,
+            40,
+        ),
     ];
     for (text, fault, from, to) in rows {
         let stop = tables_of(&rt, rt.alloc(), text).err();

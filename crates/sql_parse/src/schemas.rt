@@ -16,7 +16,11 @@ use std::alloc::Global;
 
 /// A statement, which may be empty.
 #[tactic(auto, unfolding(crate::specs::reading::Schemas::read_statement, crate::specs::reading::Tokens::and_then))]
-fn statement<'a>(alloc: Global, depth: usize, tokens: &'a [Token]) -> Result<(Option<CreateTable>, &'a [Token]), ParseStop>
+fn statement<'a>(
+    alloc: Global,
+    depth: usize,
+    tokens: &'a [Token],
+) -> Result<(Option<CreateTable>, &'a [Token]), ParseStop>
     ensures { GivesAlone (read_statement depth tokens.now) result }
 {
     if !at(tokens, CREATE) {
@@ -28,7 +32,11 @@ fn statement<'a>(alloc: Global, depth: usize, tokens: &'a [Token]) -> Result<(Op
 
 /// Statements with semicolons between them: the tables that they declare.
 #[tactic(auto, using(crate::proofs::Statements::statement_rules))]
-fn statements<'a>(alloc: Global, depth: usize, tokens: &'a [Token]) -> Result<(Items<CreateTable>, &'a [Token]), ParseStop>
+fn statements<'a>(
+    alloc: Global,
+    depth: usize,
+    tokens: &'a [Token],
+) -> Result<(Items<CreateTable>, &'a [Token]), ParseStop>
     ensures { Gives (read_schema depth tokens.now) result }
 {
     let (first, mut rest) = statement(alloc, depth, tokens)?;

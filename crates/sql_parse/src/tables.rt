@@ -9,7 +9,9 @@ ghost use Rattle.sql_parse.specs.reading.Tables.{read_length, character_rest, re
 
 use crate::front::{Mark, Nesting, ParseStop, at, expect, is, next};
 use crate::lists::separated;
-use crate::reserved::{CHECK, CONSTRAINT, CREATE, FOREIGN, NOT, NULL, ON, PRIMARY, REFERENCES, TABLE, UNIQUE};
+use crate::reserved::{
+    CHECK, CONSTRAINT, CREATE, FOREIGN, NOT, NULL, ON, PRIMARY, REFERENCES, TABLE, UNIQUE,
+};
 use crate::selects::condition;
 use crate::terms::{name, names, number, value};
 use crate::words::{expect_called, is_called, next_called};
@@ -39,7 +41,13 @@ fn character_rest(place: Span, tokens: &[Token]) -> Result<(TypeTree, &[Token]),
     }
     match next_called(tokens, "VARYING") {
         Some((_, rest)) => length_of_text(rest),
-        None => Ok((TypeTree::Text { length: 1, span: place }, tokens)),
+        None => Ok((
+            TypeTree::Text {
+                length: 1,
+                span: place,
+            },
+            tokens,
+        )),
     }
 }
 
@@ -131,8 +139,7 @@ fn event(tokens: &[Token]) -> Result<(&Token, &[Token]), ParseStop>
 {
     match tokens.split_first() {
         Some((token, rest))
-            if is_called(&token.kind, "DELETE") || is_called(&token.kind, "UPDATE") =>
-        {
+            if is_called(&token.kind, "DELETE") || is_called(&token.kind, "UPDATE") => {
             Ok((token, rest))
         }
         _ => Err(ParseStop::Syntax(tokens.len())),
@@ -163,7 +170,10 @@ fn after_actions(tokens: &[Token]) -> Result<&[Token], ParseStop>
 
 /// A name in parentheses.
 #[tactic(auto, unfolding(crate::specs::reading::Tables::read_one_name, crate::specs::reading::Tokens::and_then, crate::specs::reading::Tokens::read_after))]
-fn one_name<'a>(alloc: Global, tokens: &'a [Token]) -> Result<(Items<NameTree>, &'a [Token]), ParseStop>
+fn one_name<'a>(
+    alloc: Global,
+    tokens: &'a [Token],
+) -> Result<(Items<NameTree>, &'a [Token]), ParseStop>
     ensures { Gives (read_one_name tokens.now) result }
 {
     let (_, rest) = expect(tokens, Mark::Open)?;
@@ -175,7 +185,11 @@ fn one_name<'a>(alloc: Global, tokens: &'a [Token]) -> Result<(Items<NameTree>, 
 
 /// The columns that a reference names, where it does; at a column one.
 #[tactic(auto, unfolding(crate::specs::reading::Tables::read_target))]
-fn target<'a>(alloc: Global, one: bool, tokens: &'a [Token]) -> Result<(Items<NameTree>, &'a [Token]), ParseStop>
+fn target<'a>(
+    alloc: Global,
+    one: bool,
+    tokens: &'a [Token],
+) -> Result<(Items<NameTree>, &'a [Token]), ParseStop>
     ensures { Gives (read_target one tokens.now) result }
 {
     if !at(tokens, Mark::Open) {
@@ -189,7 +203,11 @@ fn target<'a>(alloc: Global, one: bool, tokens: &'a [Token]) -> Result<(Items<Na
 
 /// A reference: the table and the columns that it names.
 #[tactic(auto, unfolding(crate::specs::reading::Tables::read_reference, crate::specs::reading::Tokens::and_then, crate::specs::reading::Tokens::read_after))]
-fn reference<'a>(alloc: Global, one: bool, tokens: &'a [Token]) -> Result<((NameTree, Items<NameTree>), &'a [Token]), ParseStop>
+fn reference<'a>(
+    alloc: Global,
+    one: bool,
+    tokens: &'a [Token],
+) -> Result<((NameTree, Items<NameTree>), &'a [Token]), ParseStop>
     ensures { Gives (read_reference one tokens.now) result }
 {
     let (_, rest) = expect(tokens, REFERENCES)?;
@@ -211,7 +229,12 @@ fn last_end(table: &NameTree, target: &[NameTree]) -> u32
 }
 
 /// A foreign key whose rule begins at this place.
-fn foreign(columns: Items<NameTree>, place: Span, table: NameTree, target: Items<NameTree>) -> RuleTree
+fn foreign(
+    columns: Items<NameTree>,
+    place: Span,
+    table: NameTree,
+    target: Items<NameTree>,
+) -> RuleTree
     ensures { result ≡ foreign_tree columns place (table, target) }
 {
     let span = Span {
@@ -228,7 +251,11 @@ fn foreign(columns: Items<NameTree>, place: Span, table: NameTree, target: Items
 
 /// CHECK with its condition, which has no subquery.
 #[tactic(auto, unfolding(crate::specs::reading::Tables::read_check, crate::specs::reading::Tokens::and_then, crate::specs::reading::Tokens::read_after))]
-fn check<'a>(alloc: Global, depth: usize, tokens: &'a [Token]) -> Result<(CondTree, &'a [Token]), ParseStop>
+fn check<'a>(
+    alloc: Global,
+    depth: usize,
+    tokens: &'a [Token],
+) -> Result<(CondTree, &'a [Token]), ParseStop>
     ensures { Gives (read_check depth tokens.now) result }
 {
     let (_, rest) = expect(tokens, CHECK)?;
@@ -243,7 +270,10 @@ fn copy_of(alloc: Global, name: &NameTree) -> Result<NameTree, NoMemory>
     ensures { IfOk result (λ copy. copy ≡ name.now) }
 {
     let text = name.text.copy(alloc)?;
-    Ok(NameTree { text, span: name.span })
+    Ok(NameTree {
+        text,
+        span: name.span,
+    })
 }
 
 /// The list of one name.
@@ -265,7 +295,12 @@ fn column_alone(alloc: Global, column: &NameTree) -> Result<Items<NameTree>, NoM
 
 /// What follows the first word of a rule at a column that a word says without more.
 #[tactic(auto, using(crate::proofs::Called::called_words), unfolding(crate::specs::reading::Tables::word_rule, crate::specs::reading::Tokens::and_then))]
-fn word_rule<'a>(alloc: Global, column: &NameTree, token: &Token, rest: &'a [Token]) -> Result<(Option<RuleTree>, &'a [Token]), ParseStop>
+fn word_rule<'a>(
+    alloc: Global,
+    column: &NameTree,
+    token: &Token,
+    rest: &'a [Token],
+) -> Result<(Option<RuleTree>, &'a [Token]), ParseStop>
     ensures { (depth : ℕ) → GivesAlone (word_rule depth column.now token.now.kind token.now.span rest.now) result }
 {
     if is(&token.kind, NOT) {
@@ -288,7 +323,12 @@ fn word_rule<'a>(alloc: Global, column: &NameTree, token: &Token, rest: &'a [Tok
 
 /// A rule at a column. NULL is none.
 #[tactic(auto, unfolding(crate::specs::reading::Tables::read_column_rule, crate::specs::reading::Tables::column_rule_from, crate::specs::reading::Tokens::and_then))]
-fn column_rule<'a>(alloc: Global, depth: usize, column: &NameTree, tokens: &'a [Token]) -> Result<(Option<RuleTree>, &'a [Token]), ParseStop>
+fn column_rule<'a>(
+    alloc: Global,
+    depth: usize,
+    column: &NameTree,
+    tokens: &'a [Token],
+) -> Result<(Option<RuleTree>, &'a [Token]), ParseStop>
     ensures { GivesAlone (read_column_rule depth column.now tokens.now) result }
 {
     let Some((token, rest)) = tokens.split_first() else {
@@ -308,7 +348,12 @@ fn column_rule<'a>(alloc: Global, depth: usize, column: &NameTree, tokens: &'a [
 
 /// A rule at a column that may have a name.
 #[tactic(auto, unfolding(crate::specs::reading::Tables::read_named_rule, crate::specs::reading::Tokens::and_then))]
-fn named_rule<'a>(alloc: Global, depth: usize, column: &NameTree, tokens: &'a [Token]) -> Result<(Option<RuleTree>, &'a [Token]), ParseStop>
+fn named_rule<'a>(
+    alloc: Global,
+    depth: usize,
+    column: &NameTree,
+    tokens: &'a [Token],
+) -> Result<(Option<RuleTree>, &'a [Token]), ParseStop>
     ensures { (count : ℕ) → GivesAlone (read_named_rule depth column.now count tokens.now) result }
 {
     let rest = after_constraint(alloc, tokens)?;
@@ -352,7 +397,12 @@ pub(crate) fn add_optional<T: Drop>(items: &mut Items<T>, item: Option<T>) -> Re
 
 /// The rules at a column.
 #[tactic(auto, unfolding(crate::specs::reading::Tables::read_rules))]
-fn rules<'a>(alloc: Global, depth: usize, column: &NameTree, tokens: &'a [Token]) -> Result<(Items<RuleTree>, &'a [Token]), ParseStop>
+fn rules<'a>(
+    alloc: Global,
+    depth: usize,
+    column: &NameTree,
+    tokens: &'a [Token],
+) -> Result<(Items<RuleTree>, &'a [Token]), ParseStop>
     ensures { Gives (read_rules depth column.now tokens.now) result }
 {
     let mut rules = Items::new(alloc);
@@ -367,7 +417,10 @@ fn rules<'a>(alloc: Global, depth: usize, column: &NameTree, tokens: &'a [Token]
 
 /// The names after KEY.
 #[tactic(auto, using(crate::proofs::Called::called_words), unfolding(crate::specs::reading::Tokens::and_then, crate::specs::reading::Tokens::read_after))]
-fn key_names<'a>(alloc: Global, tokens: &'a [Token]) -> Result<(Items<NameTree>, &'a [Token]), ParseStop>
+fn key_names<'a>(
+    alloc: Global,
+    tokens: &'a [Token],
+) -> Result<(Items<NameTree>, &'a [Token]), ParseStop>
     ensures { Gives (read_after (is_called (codes "KEY")) read_names tokens.now) result }
 {
     let (_, rest) = expect_called(tokens, "KEY")?;
@@ -376,7 +429,11 @@ fn key_names<'a>(alloc: Global, tokens: &'a [Token]) -> Result<(Items<NameTree>,
 
 /// A rule beside the columns.
 #[tactic(auto, unfolding(crate::specs::reading::Tables::read_table_rule, crate::specs::reading::Tables::table_rule_from, crate::specs::reading::Tables::read_key_names, crate::specs::reading::Tokens::and_then))]
-fn table_rule<'a>(alloc: Global, depth: usize, tokens: &'a [Token]) -> Result<(RuleTree, &'a [Token]), ParseStop>
+fn table_rule<'a>(
+    alloc: Global,
+    depth: usize,
+    tokens: &'a [Token],
+) -> Result<(RuleTree, &'a [Token]), ParseStop>
     ensures { Gives (read_table_rule depth tokens.now) result }
 {
     let Some((Token { kind, span }, rest)) = tokens.split_first() else {
@@ -387,7 +444,13 @@ fn table_rule<'a>(alloc: Global, depth: usize, tokens: &'a [Token]) -> Result<(R
         Ok((RuleTree::Unique { columns }, rest))
     } else if is(kind, PRIMARY) {
         let (columns, rest) = key_names(alloc, rest)?;
-        Ok((RuleTree::Primary { columns, span: *span }, rest))
+        Ok((
+            RuleTree::Primary {
+                columns,
+                span: *span,
+            },
+            rest,
+        ))
     } else if is(kind, CHECK) {
         let (tree, rest) = check(alloc, depth, tokens)?;
         Ok((RuleTree::Check(tree), rest))
@@ -402,7 +465,11 @@ fn table_rule<'a>(alloc: Global, depth: usize, tokens: &'a [Token]) -> Result<(R
 
 /// A column with its type and its rules.
 #[tactic(auto, unfolding(crate::specs::reading::Tables::read_declared_column, crate::specs::reading::Tokens::and_then))]
-fn column<'a>(alloc: Global, depth: usize, tokens: &'a [Token]) -> Result<(Element, &'a [Token]), ParseStop>
+fn column<'a>(
+    alloc: Global,
+    depth: usize,
+    tokens: &'a [Token],
+) -> Result<(Element, &'a [Token]), ParseStop>
     ensures { Gives (read_declared_column depth tokens.now) result }
 {
     let (name, rest) = name(alloc, tokens)?;
@@ -414,7 +481,11 @@ fn column<'a>(alloc: Global, depth: usize, tokens: &'a [Token]) -> Result<(Eleme
 
 /// A column, or a rule beside the columns.
 #[tactic(auto, unfolding(crate::specs::reading::Tables::read_element, crate::specs::reading::Tokens::and_then))]
-fn element<'a>(alloc: Global, depth: usize, tokens: &'a [Token]) -> Result<(Element, &'a [Token]), ParseStop>
+fn element<'a>(
+    alloc: Global,
+    depth: usize,
+    tokens: &'a [Token],
+) -> Result<(Element, &'a [Token]), ParseStop>
     ensures { Gives (read_element depth tokens.now) result }
 {
     if at(tokens, Mark::Name) {
@@ -426,15 +497,28 @@ fn element<'a>(alloc: Global, depth: usize, tokens: &'a [Token]) -> Result<(Elem
 }
 
 /// Elements with commas between them.
-fn listed_elements<'a>(alloc: Global, depth: usize, tokens: &'a [Token]) -> Result<(Items<Element>, &'a [Token]), ParseStop>
+fn listed_elements<'a>(
+    alloc: Global,
+    depth: usize,
+    tokens: &'a [Token],
+) -> Result<(Items<Element>, &'a [Token]), ParseStop>
     ensures { Gives (read_separated is_comma (read_element depth) tokens.now) result }
 {
-    separated(alloc, tokens, Mark::Comma, |part| element(alloc, depth, part))
+    separated(
+        alloc,
+        tokens,
+        Mark::Comma,
+        |part| element(alloc, depth, part),
+    )
 }
 
 /// The elements of a table, in parentheses.
 #[tactic(auto, unfolding(crate::specs::reading::Tables::read_elements, crate::specs::reading::Tokens::and_then, crate::specs::reading::Tokens::read_after))]
-fn elements<'a>(alloc: Global, depth: usize, tokens: &'a [Token]) -> Result<(Items<Element>, &'a [Token]), ParseStop>
+fn elements<'a>(
+    alloc: Global,
+    depth: usize,
+    tokens: &'a [Token],
+) -> Result<(Items<Element>, &'a [Token]), ParseStop>
     ensures { Gives (read_elements depth tokens.now) result }
 {
     let (_, rest) = expect(tokens, Mark::Open)?;
@@ -445,7 +529,11 @@ fn elements<'a>(alloc: Global, depth: usize, tokens: &'a [Token]) -> Result<(Ite
 
 /// A declaration of a table. Conditions are nested to less than the depth.
 #[tactic(auto, unfolding(crate::specs::reading::Tables::read_create, crate::specs::reading::Tokens::and_then, crate::specs::reading::Tokens::read_after))]
-pub(crate) fn create<'a>(alloc: Global, depth: usize, tokens: &'a [Token]) -> Result<(CreateTable, &'a [Token]), ParseStop>
+pub(crate) fn create<'a>(
+    alloc: Global,
+    depth: usize,
+    tokens: &'a [Token],
+) -> Result<(CreateTable, &'a [Token]), ParseStop>
     ensures { Gives (read_create depth tokens.now) result }
 {
     let (_, rest) = expect(tokens, CREATE)?;
