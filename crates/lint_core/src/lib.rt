@@ -25,12 +25,12 @@ mod run;
 mod schema;
 
 pub use certificate::{Cert, Step, SumEdge};
-pub use condition::{Cond, Op, Term};
+pub use condition::{Block, Cond, Entry, Term};
 pub use database::{Binding, Counter, Database, Points, Row, Truth, Value};
 pub use formula::{Atom, Formula, Side};
 pub use laws::{
     accepted_steps_refute, certified_question_holds, formula_says_truth, sentence_says_failure,
 };
-pub use query::{Block, Entry, Item, Query, Question};
+pub use query::{Item, Query, Question};
 pub use run::{Answer, QueryResult, QueryRun, Run};
-pub use schema::{Column, Domain, Schema, Table, Unit};
+pub use schema::{Column, Domain, ForeignKey, Key, Schema, Table, Unit};

@@ -3,6 +3,7 @@ ghost use Rattle.std.specs.Prelude.{◌≡◌, true, false, IfSome, OnSome, IfNo
 ghost use Rattle.std.specs.List.{list_all};
 ghost use Rattle.lint_core.specs.Schema.{is_domain, is_table, is_schema};
 
+use crate::condition::Cond;
 use lint_base::{Items, Str};
 use std::marker::Model;
 
@@ -22,20 +23,43 @@ pub enum Domain {
         greatest: i64,
         unit: Unit,
     },
+    /// Texts. The length is read and restricts nothing.
+    Text { length: u32 },
 }
 
-/// A column, by its name and its domain.
-#[derive(Drop)]
+/// A column, by its name and its domain. `not_null` marks a column that is NOT NULL or in the primary
+/// key.
+#[derive(Debug, Drop)]
 pub struct Column {
     pub name: Str,
     pub domain: Domain,
+    pub not_null: bool,
 }
 
-/// A table, by its name and its columns in order.
+/// The columns of a UNIQUE or PRIMARY KEY constraint, by their numbers from 0.
+#[derive(Debug, Drop)]
+pub struct Key {
+    pub columns: Items<u32>,
+}
+
+/// A foreign key: its own columns, and the column of the target table that each of them refers to. These
+/// are, as a set, the columns of a key of the target table.
+#[derive(Debug, Drop)]
+pub struct ForeignKey {
+    pub columns: Items<u32>,
+    pub target: u32,
+    pub target_columns: Items<u32>,
+}
+
+/// A table: its name, its columns in order and its constraints. The primary key, if there is one, is the
+/// first of the keys.
 #[derive(Drop)]
 pub struct Table {
     pub name: Str,
     pub columns: Items<Column>,
+    pub keys: Items<Key>,
+    pub checks: Items<Cond>,
+    pub foreign: Items<ForeignKey>,
 }
 
 /// The tables of a database, in the order in which they were declared.
