@@ -72,12 +72,17 @@ impl Model for Schema {
     ghost use Rattle.std.specs.Prelude.{◌≡◌, List, true};
     ghost use Rattle.lint_core.specs.declared.schema.Table.{Table};
     ghost use Rattle.lint_core.specs.Schema.{is_schema};
+    ghost use Rattle.std.specs.Coded.{codes};
+    ghost use Rattle.lint_core.specs.contracts.condition.Cond as cond;
 
     ghost Value = { List Table };
 
     ghost view = { λ s. s.tables };
 
     ghost invariant = { λ s. is_schema s.tables ≡ true };
+
+    // a code for each condition tells two lists of tables apart
+    ghost coded = { Prim.hlevel (codes, cond.the_row.coded) };
 }
 
 impl Schema {
