@@ -12,3 +12,6 @@ pub mod Certificate
 pub mod Answer
 pub mod Fits
 pub mod FirstForm
+pub mod Kind
+pub mod Fits
+pub mod Schema
