@@ -9,3 +9,5 @@ mod Steps
 mod Comparisons
 mod Truths
 mod Failures
+mod Levels
+mod Fitting

@@ -1,7 +1,7 @@
 -- When a query, and a condition in it, fits a schema: every position exists, what is compared may be
 -- compared, and no limit is passed. A condition stands in levels, the main query's first: each has the
 -- table of each of its FROM entries.
-use Rattle.std.specs.Prelude.{ℕ, ◌+◌, ℤ, pos, Bool, true, false, ◌&&◌, List, [], ◌∷◌, ◌++◌, length, map, Option, Some, None, slice_get, option_and_then, nat_lt, nat_le, is_some, if◌then◌else◌, sum}
+use Rattle.std.specs.Prelude.{ℕ, ◌+◌, ℤ, pos, Bool, true, false, ◌&&◌, List, [], ◌∷◌, ◌++◌, length, map, Option, Some, None, slice_get, option_and_then, nat_lt, nat_le, is_some, sum}
 use Rattle.std.specs.List.{list_all}
 use Rattle.std.specs.Ordering.{int_eq}
 use Rattle.lint_tables.specs.declared.op.Op.{Op}
@@ -17,17 +17,11 @@ use Rattle.lint_core.specs.declared.query.Query.{Query}
 use Rattle.lint_core.specs.declared.schema.Kind.{Kind}
 use Rattle.lint_core.specs.declared.schema.Kind.TheVariants as kind
 use Rattle.lint_core.specs.declared.schema.Table.{Table}
-use Rattle.lint_core.specs.Kind.{column_kind, compares_both}
+use Rattle.lint_core.specs.Kind.{column_kind, with_added, compares_both}
 
 -- the table of an entry of a level
 abbrev pub table_at : List (List ℕ) → ℕ → ℕ → Option ℕ
 table_at tables level entry = option_and_then (λ entries. slice_get entries entry) (slice_get tables level)
-
--- a column with a number added: nothing is added to a text
-abbrev pub with_added : ℤ → Kind → Option Kind
-with_added added kind.Null = Some kind.Null
-with_added added (kind.Number unit) = Some (kind.Number unit)
-with_added added kind.Text = if int_eq added (pos 0) then Some kind.Text else None
 
 -- nothing is added
 abbrev pub is_plain : Term → Bool
@@ -46,31 +40,34 @@ is_cell term.Null = false
 abbrev pub tables_of : List Entry → List ℕ
 tables_of entries = map (λ (e : Entry). e.table) entries
 
+-- whether a condition fits at the tables of its levels
+abbrev pub Meaning : Type 0
+Meaning = List (List ℕ) → Bool
+
+-- the tables of a block's own entries, and whether it fits at the levels around it
+pub record BlockMeaning : Type 0 where
+  pub own : List ℕ
+  pub fits : List (List ℕ) → Bool
+
+-- the levels that a block's condition sees, its own last
+abbrev pub inner_tables : List (List ℕ) → BlockMeaning → List (List ℕ)
+inner_tables tables block = tables ++ block.own ∷ []
+
 module _ (schema : List Table) where
+  -- the kind of a table's column with a number added; none where there is no such column
+  abbrev pub cell_kind : Option ℕ → ℕ → ℤ → Option Kind
+  cell_kind table column added =
+      option_and_then (with_added added) (option_and_then (λ (t : Table). column_kind t column) (option_and_then (slice_get schema) table))
+
   -- the kind of a term; none where it names no column, or adds to a text
   abbrev pub term_kind : List (List ℕ) → Term → Option Kind
-  term_kind tables (term.Cell level entry column added) =
-      option_and_then (with_added added)
-      (option_and_then (λ (table : Table). column_kind table column) (option_and_then (slice_get schema) (table_at tables level entry)))
+  term_kind tables (term.Cell level entry column added) = cell_kind (table_at tables level entry) column added
   term_kind tables (term.Number value unit) = Some (kind.Number unit)
   term_kind tables (term.Text text) = Some kind.Text
   term_kind tables term.Null = Some kind.Null
 
   abbrev pub term_fits : List (List ℕ) → Term → Bool
   term_fits tables t = is_some (term_kind tables t)
-
-  -- whether a condition fits at the tables of its levels
-  abbrev pub Meaning : Type 0
-  Meaning = List (List ℕ) → Bool
-
-  -- the tables of a block's own entries, and whether it fits at the levels around it
-  pub record BlockMeaning : Type 0 where
-    pub own : List ℕ
-    pub fits : List (List ℕ) → Bool
-
-  -- the levels that a block's condition sees, its own last
-  abbrev pub inner_tables : List (List ℕ) → BlockMeaning → List (List ℕ)
-  inner_tables tables block = tables ++ block.own ∷ []
 
   -- a term compares with what a block selects, which stands in the block's own level
   abbrev pub selected_fits : List (List ℕ) → Op → Term → BlockMeaning → Term → Bool
@@ -95,16 +92,19 @@ module _ (schema : List Table) where
   block_step block = record {
     own = tables_of block.entries;
     fits = λ tables.
-      nat_le (length block.entries) 16
-      && list_all (λ (e : Entry). nat_lt e.table (length schema)) block.entries
-      && block.cond (tables ++ tables_of block.entries ∷ [])
+        nat_le (length block.entries) 16
+        && list_all (λ (e : Entry). nat_lt e.table (length schema)) block.entries
+        && block.cond (tables ++ tables_of block.entries ∷ []);
   }
 
   abbrev pub cond_fits : List (List ℕ) → Cond → Bool
   cond_fits tables cond = fold-Cond Meaning BlockMeaning fits_step block_step cond tables
 
+  abbrev pub block_meaning : Block → BlockMeaning
+  block_meaning = fold-Block Meaning BlockMeaning fits_step block_step
+
   abbrev pub block_fits : List (List ℕ) → Block → Bool
-  block_fits tables block = (fold-Block Meaning BlockMeaning fits_step block_step block).fits tables
+  block_fits tables block = (block_meaning block).fits tables
 
   abbrev pub item_fits : List (List ℕ) → Item → Bool
   item_fits tables item = term_fits tables item.term && is_plain item.term
@@ -150,13 +150,23 @@ is_flat = fold-Cond Bool Bool flat_step (λ block. false)
 abbrev pub check_fits : List Table → ℕ → Cond → Bool
 check_fits schema table check = is_flat check && nat_le (count_conditions check) 65536 && cond_fits schema ((table ∷ []) ∷ []) check
 
--- at most 256 items, each a term that fits with nothing added; each order key a column that fits; a main
--- block that fits; and at most 65,536 conditions
-abbrev pub query_fits : List Table → Query → Bool
-query_fits schema query =
-    let tables = tables_of (out-Block query.block).entries ∷ [] in
+-- the one level that items and order keys see
+abbrev pub main_tables : Query → List (List ℕ)
+main_tables query = tables_of (out-Block query.block).entries ∷ []
+
+-- at most 256 items, each a term that fits with nothing added, and each order key a column that fits
+unfoldable pub selection_fits_in : List Table → List (List ℕ) → Query → Bool
+selection_fits_in schema tables query =
     nat_le (length query.items) 256
     && list_all (item_fits schema tables) query.items
     && list_all (order_fits schema tables) query.order
+
+abbrev pub selection_fits : List Table → Query → Bool
+selection_fits schema query = selection_fits_in schema (main_tables query) query
+
+-- a selection and a main block that fit, and at most 65,536 conditions
+abbrev pub query_fits : List Table → Query → Bool
+query_fits schema query =
+    selection_fits schema query
     && block_fits schema [] query.block
     && nat_le (count_conditions (out-Block query.block).cond) 65536

@@ -1,6 +1,7 @@
 -- Which values may stand beside each other: numbers of one unit are of one kind, and so are all texts
 -- (ISO/IEC 9075:1992, 4.1: comparable data types). NULL as a term has no kind of its own.
-use Rattle.std.specs.Prelude.{ℕ, Bool, true, false, ◌&&◌, ◌||◌, not, Option, Some, None, slice_get, option_and_then}
+use Rattle.std.specs.Prelude.{ℕ, Bool, true, false, ◌&&◌, ◌||◌, not, Option, Some, None, slice_get, option_and_then, ℤ, pos, if◌then◌else◌}
+use Rattle.std.specs.Ordering.{int_eq}
 use Rattle.lint_tables.specs.declared.op.Op.{Op}
 use Rattle.lint_tables.specs.declared.op.Op.TheVariants.{Eq, Ne, Lt, Le, Gt, Ge}
 use Rattle.lint_core.specs.declared.schema.Unit.{Unit as NumberUnit}
@@ -22,6 +23,12 @@ kind_of (domain.Text length) = kind.Text
 -- the kind of a column, where the table has it
 abbrev pub column_kind : Table → ℕ → Option Kind
 column_kind table column = option_and_then (λ (c : Column). Some (kind_of c.domain)) (slice_get table.columns column)
+
+-- a kind with a number added: nothing is added to a text
+abbrev pub with_added : ℤ → Kind → Option Kind
+with_added added kind.Null = Some kind.Null
+with_added added (kind.Number unit) = Some (kind.Number unit)
+with_added added kind.Text = if int_eq added (pos 0) then Some kind.Text else None
 
 -- of one kind, or one is NULL
 abbrev pub goes_with : Kind → Kind → Bool

@@ -14,4 +14,5 @@ pub mod Fits
 pub mod FirstForm
 pub mod Kind
 pub mod Fits
+pub mod Levels
 pub mod Schema

@@ -1,8 +1,9 @@
 -- Which lists of tables are a schema. SMALLINT, INTEGER and BIGINT are the whole numbers of 16, 32 and
 -- 64 bits (ISO/IEC 9075:1992, 4.4.1, leaves the ranges to the implementation).
 use Rattle.std.specs.Prelude.{ℕ, suc, ℤ, pos, Bool, true, false, ◌&&◌, ◌||◌, List, [], ◌∷◌, length, Option, Some, None, slice_get, nat_eq, nat_lt, nat_le, ◌^◌, ◌-◌, ◌+◌, neg_ℤ}
-use Rattle.std.specs.List.{list_all, list_any}
+use Rattle.std.specs.List.{list_all, list_any, zip}
 use Rattle.std.specs.Ordering.{int_eq}
+use Rattle.lint_core.specs.declared.condition.Cond.{Cond}
 use Rattle.lint_core.specs.declared.schema.Unit.TheVariants.{Whole}
 use Rattle.lint_core.specs.declared.schema.Domain.{Domain}
 use Rattle.lint_core.specs.declared.schema.Domain.TheVariants.{Number, Text}
@@ -22,9 +23,19 @@ abbrev pub is_domain : Domain → Bool
 is_domain (Number least greatest Whole) = is_signed_range 16 least greatest || is_signed_range 32 least greatest || is_signed_range 64 least greatest
 is_domain (Text size) = nat_le 1 size && nat_le size 65535
 
--- the columns of a key are columns of its table
-abbrev pub is_key : Table → Key → Bool
-is_key table key = list_all (λ column. nat_lt column (length table.columns)) key.columns
+-- at most 64 columns, each of a domain
+abbrev pub are_columns : List Column → Bool
+are_columns columns = nat_le (length columns) 64 && list_all (λ (c : Column). is_domain c.domain) columns
+
+-- at most 1,000 keys, whose columns are columns of the table
+abbrev pub are_keys : Table → List Key → Bool
+are_keys table keys =
+    nat_le (length keys) 1000
+    && list_all (λ (k : Key). list_all (λ column. nat_lt column (length table.columns)) k.columns) keys
+
+-- at most 1,000 CHECKs, which fit the table of the number
+abbrev pub are_checks : List Table → ℕ → List Cond → Bool
+are_checks schema number checks = nat_le (length checks) 1000 && list_all (check_fits schema number) checks
 
 -- every number of the first list is in the second
 abbrev pub is_within : List ℕ → List ℕ → Bool
@@ -34,12 +45,11 @@ is_within xs ys = list_all (λ x. list_any (nat_eq x) ys) xs
 abbrev pub are_columns_of : List ℕ → Key → Bool
 are_columns_of columns key = nat_eq (length columns) (length key.columns) && is_within columns key.columns && is_within key.columns columns
 
--- as many columns of the one table as of the other, each with one of its kind
+-- as many columns of the one table as of the other, each beside one of its kind
 abbrev pub are_paired : Table → Table → List ℕ → List ℕ → Bool
-are_paired table target [] [] = true
-are_paired table target [] (d ∷ ds) = false
-are_paired table target (c ∷ cs) [] = false
-are_paired table target (c ∷ cs) (d ∷ ds) = are_of_one_kind (column_kind table c) (column_kind target d) && are_paired table target cs ds
+are_paired table target columns others =
+    nat_eq (length columns) (length others)
+    && list_all (λ pair. are_of_one_kind (column_kind table pair.0) (column_kind target pair.1)) (zip columns others)
 
 -- the columns are paired with columns of the target, which are those of one of its keys
 abbrev pub refers_to : Table → ForeignKey → Option Table → Bool
@@ -48,21 +58,19 @@ refers_to table foreign (Some target) =
     are_paired table target foreign.columns foreign.target_columns
     && list_any (are_columns_of foreign.target_columns) target.keys
 
-abbrev pub is_foreign_key : List Table → Table → ForeignKey → Bool
-is_foreign_key schema table foreign = refers_to table foreign (slice_get schema foreign.target)
+-- at most 1,000 foreign keys, each to a table that exists
+abbrev pub are_foreign_keys : List Table → Table → List ForeignKey → Bool
+are_foreign_keys schema table keys =
+    nat_le (length keys) 1000
+    && list_all (λ (k : ForeignKey). refers_to table k (slice_get schema k.target)) keys
 
--- at most 64 columns, each of a domain, and at most 1,000 keys, 1,000 CHECKs and 1,000 foreign keys; the
--- table is the one of that number
+-- the table of the number
 abbrev pub is_table : List Table → ℕ → Table → Bool
 is_table schema number table =
-    nat_le (length table.columns) 64
-    && list_all (λ (c : Column). is_domain c.domain) table.columns
-    && nat_le (length table.keys) 1000
-    && list_all (is_key table) table.keys
-    && nat_le (length table.checks) 1000
-    && list_all (check_fits schema number) table.checks
-    && nat_le (length table.foreign) 1000
-    && list_all (is_foreign_key schema table) table.foreign
+    are_columns table.columns
+    && are_keys table table.keys
+    && are_checks schema number table.checks
+    && are_foreign_keys schema table table.foreign
 
 -- each is a table of the schema, the first of them that of the number
 abbrev pub are_tables : List Table → ℕ → List Table → Bool

@@ -1,10 +1,13 @@
 //! Schemas: tables, their columns and the columns' domains.
-ghost use Rattle.std.specs.Prelude.{◌≡◌, true, false, IfSome, OnSome, IfNone, IsNone, ◌↔◌};
-ghost use Rattle.std.specs.List.{list_all};
-ghost use Rattle.lint_core.specs.Schema.{is_domain, is_table, is_schema};
+ghost use Rattle.std.specs.Prelude.{◌≡◌, true, false, IfSome, OnSome, IfNone, IsNone, ◌↔◌, ◌≤◌, length, nat_eq, nat_lt, slice_get, Some};
+ghost use Rattle.std.specs.List.{list_all, list_any, zip};
+ghost use Rattle.lint_core.specs.Fits.{check_fits};
+ghost use Rattle.lint_core.specs.Kind.{kind_of, column_kind, are_of_one_kind, goes_with, compares, with_added};
+ghost use Rattle.lint_core.specs.Schema.{is_domain, are_columns, are_keys, are_checks, is_within, are_columns_of, are_paired, refers_to, are_foreign_keys, is_table, are_tables, is_schema};
 
 use crate::condition::Cond;
 use lint_base::{Items, Str};
+use lint_tables::Op;
 use std::marker::Model;
 
 /// What a number counts in.
@@ -12,6 +15,14 @@ use std::marker::Model;
 pub enum Unit {
     /// Whole numbers.
     Whole,
+}
+
+/// What may be compared: numbers of one unit with each other, and texts. NULL goes with both.
+#[derive(Clone, Copy, Debug, PartialEq, Eq)]
+pub(crate) enum Kind {
+    Null,
+    Number(Unit),
+    Text,
 }
 
 /// The values that a column may hold beside NULL.
@@ -24,7 +35,66 @@ pub enum Domain {
         unit: Unit,
     },
     /// Texts. The length is read and restricts nothing.
-    Text { length: u32 },
+    Text {
+        length: u32,
+    },
+}
+
+impl Kind {
+    fn goes_with(self, other: Kind) -> bool
+        ensures { result ≡ goes_with self other }
+    {
+        match (self, other) {
+            (Kind::Null, _) | (_, Kind::Null) | (Kind::Text, Kind::Text) => true,
+            (Kind::Number(unit), Kind::Number(other)) => unit == other,
+            (Kind::Number(_), Kind::Text) | (Kind::Text, Kind::Number(_)) => false,
+        }
+    }
+
+    /// Whether the operator compares values of the two kinds.
+    pub(crate) fn compares(self, op: Op, other: Kind) -> bool
+        ensures { result ≡ compares op self other }
+    {
+        let texts = matches!(self, Kind::Text) || matches!(other, Kind::Text);
+        self.goes_with(other) && (matches!(op, Op::Eq | Op::Ne) || !texts)
+    }
+
+    /// The kind with a number added: nothing is added to a text.
+    pub(crate) fn with_added(self, added: i64) -> Option<Kind>
+        ensures { result ≡ with_added added self }
+    {
+        match self {
+            Kind::Text if added != 0 => None,
+            kind => Some(kind),
+        }
+    }
+}
+
+impl Domain {
+    fn is_known(&self) -> bool
+        ensures { result ≡ is_domain self.now }
+    {
+        match *self {
+            Domain::Number {
+                least,
+                greatest,
+                unit: Unit::Whole,
+            } => matches!(
+                (least, greatest),
+                (-0x8000, 0x7fff) | (-0x8000_0000, 0x7fff_ffff) | (i64::MIN, i64::MAX)
+            ),
+            Domain::Text { length } => length >= 1 && length <= 65_535,
+        }
+    }
+
+    fn kind(&self) -> Kind
+        ensures { result ≡ kind_of self.now }
+    {
+        match self {
+            Domain::Number { unit, .. } => Kind::Number(*unit),
+            Domain::Text { .. } => Kind::Text,
+        }
+    }
 }
 
 /// A column, by its name and its domain. `not_null` marks a column that is NOT NULL or in the primary
@@ -86,8 +156,13 @@ impl Model for Schema {
 }
 
 impl Schema {
-    /// The schema of these tables. `None` exactly where a domain is none of the ranges of SMALLINT,
-    /// INTEGER and BIGINT, a table has more than 64 columns, or there are more than 200 tables.
+    /// The schema of these tables. `None` exactly where a position in them is out of range; where a domain
+    /// is none of the ranges of SMALLINT, INTEGER and BIGINT, nor a text of 1 to 65,535 characters; where
+    /// the two lists of a foreign key differ in length, its target columns are not, as a set and as many,
+    /// those of a key of the target, or a column and its target column differ in kind; where a CHECK has a
+    /// subquery or does not fit its table, in the sense of `Query::fits` with the one row as its level; or
+    /// where there are more than 200 tables, or more than 64 columns, 1,000 keys, 1,000 CHECKs or 1,000
+    /// foreign keys of a table, or 65,536 conditions of a CHECK. It takes no memory.
     pub fn new(tables: Items<Table>) -> Option<Schema>
         ensures some { IfSome result (λ s. (s ≡ tables) × (is_schema tables ≡ true)) }
         ensures none { IfNone result (is_schema tables ≡ false) }
@@ -115,9 +190,21 @@ fn are_a_schema(tables: &[Table]) -> bool
 }
 
 fn are_tables(tables: &[Table]) -> bool
-    ensures { result ≡ list_all is_table tables.now }
+    requires { length tables.now ≤ 200 }
+    ensures { result ≡ are_tables tables.now 0 tables.now }
 {
-    tables.iter().all(|t| t.is_within_limits())
+    for (number, table) in tables.iter().enumerate() {
+        if !table.fits(tables, number as u32) {
+            return false;
+        }
+    }
+    true
+}
+
+fn are_columns(columns: &[Column]) -> bool
+    ensures { result ≡ are_columns columns.now }
+{
+    columns.len() <= 64 && have_known_domains(columns)
 }
 
 fn have_known_domains(columns: &[Column]) -> bool
@@ -126,97 +213,142 @@ fn have_known_domains(columns: &[Column]) -> bool
     columns.iter().all(|c| c.domain.is_known())
 }
 
-impl Domain {
-    fn is_known(&self) -> bool
-        ensures { result ≡ is_domain self.now }
+impl Key {
+    fn is_below(&self, count: usize) -> bool
+        ensures { result ≡ list_all (λ column. nat_lt column count) self.now.columns }
     {
-        let Domain::Number {
-            least,
-            greatest,
-            unit: Unit::Whole,
-        } = *self;
-        matches!(
-            (least, greatest),
-            (-0x8000, 0x7fff) | (-0x8000_0000, 0x7fff_ffff) | (i64::MIN, i64::MAX)
-        )
+        self.columns
+            .as_slice()
+            .iter()
+            .all(|c| (*c as usize) < count)
     }
+
+    /// Whether the columns are, as a set, those of the key, and as many.
+    fn has_columns(&self, columns: &[u32]) -> bool
+        ensures { result ≡ are_columns_of columns.now self.now }
+    {
+        let own = self.columns.as_slice();
+        columns.len() == own.len() && is_within(columns, own) && is_within(own, columns)
+    }
+}
+
+fn is_within(numbers: &[u32], others: &[u32]) -> bool
+    ensures { result ≡ is_within numbers.now others.now }
+{
+    numbers.iter().all(|n| is_among(*n, others))
+}
+
+fn is_among(number: u32, others: &[u32]) -> bool
+    ensures { result ≡ list_any (nat_eq number) others.now }
+{
+    others.iter().any(|o| number == *o)
+}
+
+fn one_kind(one: Option<Kind>, other: Option<Kind>) -> bool
+    ensures { result ≡ are_of_one_kind one other }
+{
+    match (one, other) {
+        (Some(one), Some(other)) => one.goes_with(other),
+        _ => false,
+    }
+}
+
+impl ForeignKey {
+    fn fits(&self, tables: &[Table], table: &Table) -> bool
+        ensures { result ≡ refers_to table.now self.now (slice_get tables.now self.now.target) }
+    {
+        match tables.get(self.target as usize) {
+            Some(target) => self.refers_to(table, target),
+            None => false,
+        }
+    }
+
+    fn refers_to(&self, table: &Table, target: &Table) -> bool
+        ensures { result ≡ refers_to table.now self.now (Some target.now) }
+    {
+        let others = self.target_columns.as_slice();
+        are_paired(table, target, self.columns.as_slice(), others)
+            && some_key_has(target.keys.as_slice(), others)
+    }
+}
+
+fn some_key_has(keys: &[Key], columns: &[u32]) -> bool
+    ensures { result ≡ list_any (are_columns_of columns.now) keys.now }
+{
+    keys.iter().any(|k| k.has_columns(columns))
+}
+
+fn are_paired(table: &Table, target: &Table, columns: &[u32], others: &[u32]) -> bool
+    ensures { result ≡ are_paired table.now target.now columns.now others.now }
+{
+    columns.len() == others.len() && pairs_go_together(table, target, columns, others)
+}
+
+fn pairs_go_together(table: &Table, target: &Table, columns: &[u32], others: &[u32]) -> bool
+    ensures { result ≡ list_all (λ pair. are_of_one_kind (column_kind table.now pair.0) (column_kind target.now pair.1)) (zip columns.now others.now) }
+{
+    columns.iter().zip(others).all(|(c, o)| one_kind(table.column_kind(*c), target.column_kind(*o)))
 }
 
 impl Table {
-    fn is_within_limits(&self) -> bool
-        ensures { result ≡ is_table self.now }
+    /// Whether this is right as the table of its number.
+    fn fits(&self, tables: &[Table], number: u32) -> bool
+        ensures { result ≡ is_table tables.now number self.now }
     {
-        let columns = self.columns.as_slice();
-        columns.len() <= 64 && have_known_domains(columns)
+        are_columns(self.columns.as_slice())
+            && self.has_keys()
+            && checks_fit(self.checks.as_slice(), tables, number)
+            && self.has_foreign_keys(tables)
+    }
+
+    fn has_keys(&self) -> bool
+        ensures { result ≡ are_keys self.now self.now.keys }
+    {
+        let keys = self.keys.as_slice();
+        let count = self.columns.as_slice().len();
+        keys.len() <= 1_000 && keys_are_below(keys, count)
+    }
+
+    fn has_foreign_keys(&self, tables: &[Table]) -> bool
+        ensures { result ≡ are_foreign_keys tables.now self.now self.now.foreign }
+    {
+        let keys = self.foreign.as_slice();
+        keys.len() <= 1_000 && foreign_keys_fit(keys, tables, self)
     }
 }
 
-#[cfg(test)]
-mod tests {
-    use super::*;
-    use lint_base::NoMemory;
-    use std::alloc::Global;
-    use std::test::Fail;
+fn checks_fit(checks: &[Cond], tables: &[Table], number: u32) -> bool
+    ensures { result ≡ are_checks tables.now number checks.now }
+{
+    checks.len() <= 1_000 && each_check_fits(checks, tables, number)
+}
 
-    fn columns_of(alloc: Global, count: u32, domain: Domain) -> Result<Items<Column>, NoMemory> {
-        let mut columns = Items::new(alloc);
-        for _ in 0..count {
-            columns.push(Column {
-                name: Str::from_str(alloc, "c")?,
-                domain,
-            })?;
-        }
-        Ok(columns)
-    }
+fn each_check_fits(checks: &[Cond], tables: &[Table], number: u32) -> bool
+    ensures { result ≡ list_all (check_fits tables.now number) checks.now }
+{
+    checks.iter().all(|c| c.fits_check(tables, number))
+}
 
-    fn schema_of(
-        alloc: Global,
-        tables: u32,
-        columns: u32,
-        domain: Domain,
-    ) -> Result<Option<Schema>, NoMemory> {
-        let mut list = Items::new(alloc);
-        for _ in 0..tables {
-            list.push(Table {
-                name: Str::from_str(alloc, "t")?,
-                columns: columns_of(alloc, columns, domain)?,
-            })?;
-        }
-        Ok(Schema::new(list))
-    }
+fn keys_are_below(keys: &[Key], count: usize) -> bool
+    ensures { result ≡ list_all (λ k. list_all (λ column. nat_lt column count) k.columns) keys.now }
+{
+    keys.iter().all(|k| k.is_below(count))
+}
 
-    #[test]
-    fn accepts_known_ranges_and_sizes(rt: HostRuntime) -> Result<(), Fail> {
-        let alloc = rt.alloc();
-        for (tables, columns, least, greatest, accepted) in [
-            (1, 1, -32768, 32767, true),
-            (1, 1, -2147483648, 2147483647, true),
-            (1, 1, -9223372036854775808, 9223372036854775807, true),
-            (1, 1, -32768, 32766, false),
-            (1, 1, -32767, 32767, false),
-            (1, 1, 0, 65535, false),
-            (1, 1, -32768, 2147483647, false),
-            (1, 64, -32768, 32767, true),
-            (1, 65, -32768, 32767, false),
-            (200, 1, -32768, 32767, true),
-            (201, 1, -32768, 32767, false),
-            (0, 0, -32768, 32767, true),
-        ] {
-            let domain = Domain::Number {
-                least,
-                greatest,
-                unit: Unit::Whole,
-            };
-            let schema = schema_of(alloc, tables, columns, domain)?;
-            assert_eq!(rt;
-                schema.is_some(),
-                accepted,
-                "{tables} tables of {columns} columns from {least} to {greatest}"
-            );
-            if let Some(schema) = schema {
-                assert_eq!(rt; schema.tables().as_slice().len(), tables as usize);
-            }
+fn foreign_keys_fit(keys: &[ForeignKey], tables: &[Table], table: &Table) -> bool
+    ensures { result ≡ list_all (λ k. refers_to table.now k (slice_get tables.now k.target)) keys.now }
+{
+    keys.iter().all(|k| k.fits(tables, table))
+}
+
+impl Table {
+    /// The kind of a column, if the table has it.
+    pub(crate) fn column_kind(&self, column: u32) -> Option<Kind>
+        ensures { result ≡ column_kind self.now column }
+    {
+        match self.columns.as_slice().get(column as usize) {
+            Some(found) => Some(found.domain.kind()),
+            None => None,
         }
-        Ok(())
     }
 }
