@@ -1,7 +1,7 @@
 -- When a query, and a condition in it, fits a schema: every position exists, what is compared may be
 -- compared, and no limit is passed. A condition stands in levels, the main query's first: each has the
 -- table of each of its FROM entries.
-use Rattle.std.specs.Prelude.{ℕ, ◌+◌, ℤ, pos, Bool, true, false, ◌&&◌, List, [], ◌∷◌, ◌++◌, length, map, Option, Some, None, slice_get, option_and_then, nat_lt, nat_le, is_some, sum}
+use Rattle.std.specs.Prelude.{ℕ, ◌+◌, ℤ, pos, Bool, true, false, ◌&&◌, List, [], ◌∷◌, ◌++◌, length, map, Option, Some, slice_get, option_and_then, nat_lt, nat_le, is_some, sum}
 use Rattle.std.specs.List.{list_all}
 use Rattle.std.specs.Ordering.{int_eq}
 use Rattle.lint_tables.specs.declared.op.Op.{Op}

@@ -1,6 +1,6 @@
 -- Which lists of tables are a schema. SMALLINT, INTEGER and BIGINT are the whole numbers of 16, 32 and
 -- 64 bits (ISO/IEC 9075:1992, 4.4.1, leaves the ranges to the implementation).
-use Rattle.std.specs.Prelude.{ℕ, suc, ℤ, pos, Bool, true, false, ◌&&◌, ◌||◌, List, [], ◌∷◌, length, Option, Some, None, slice_get, nat_eq, nat_lt, nat_le, ◌^◌, ◌-◌, ◌+◌, neg_ℤ}
+use Rattle.std.specs.Prelude.{ℕ, ℤ, pos, Bool, true, false, ◌&&◌, ◌||◌, List, [], ◌∷◌, length, Option, Some, None, slice_get, nat_eq, nat_lt, nat_le, ◌^◌, ◌-◌, ◌+◌, neg_ℤ}
 use Rattle.std.specs.List.{list_all, list_any, zip}
 use Rattle.std.specs.Ordering.{int_eq}
 use Rattle.lint_core.specs.declared.condition.Cond.{Cond}

@@ -1,4 +1,3 @@
-use Rattle.std.proofs.Common.{◌≡◌}
 use Rattle.lint_core.specs.Levels.{tables_of_levels}
 use Rattle.lint_core.proofs.Fitting.{fits_parts}
 use Rattle.lint_core.proofs.+fits.Goals as goal

@@ -1,4 +1,3 @@
-use Rattle.std.proofs.Common.{◌≡◌}
 use Rattle.lint_core.proofs.Fitting.{flat_parts}
 use Rattle.lint_core.proofs.+flat.Goals as goal
 

@@ -1,6 +1,6 @@
-use Rattle.std.proofs.Common.{◌≡◌, ◌∙◌, ◌<◌, ap, sym, arith, length}
+use Rattle.std.proofs.Common.{◌≡◌, ◌∙◌, ◌<◌, sym, arith, length}
 use Rattle.std.proofs.lemmas.Grind.{common_steps}
-use Rattle.lint_core.specs.Fits.{table_at, tables_of}
+use Rattle.lint_core.specs.Fits.{tables_of}
 use Rattle.lint_core.specs.Levels.{tables_of_levels}
 use Rattle.lint_core.proofs.Levels.{length_inside, table_at_outer, table_at_own, tables_inside}
 use Rattle.lint_core.proofs.fits.Levels.+look_up.Goals as goal
