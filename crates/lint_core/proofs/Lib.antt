@@ -4,6 +4,7 @@ mod Inside
 mod Named
 mod Holds
 mod Realized
+mod Conditions
 mod Edges
 mod Steps
 mod Comparisons
@@ -11,3 +12,4 @@ mod Truths
 mod Failures
 mod Levels
 mod Fitting
+mod FirstForms

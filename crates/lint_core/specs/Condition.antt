@@ -3,7 +3,7 @@
 -- as many and in the same order, say of which table. A condition has no truth where a scalar subquery that
 -- it contains gives two rows: at the binding itself, or at some inner binding of a subquery in which it
 -- stands, also where another part alone would decide.
-use Rattle.std.specs.Prelude.{ℕ, Bool, List, [], ◌∷◌, ◌++◌, map, Option, Some, None, slice_get, unwrap_or, option_and_then, not, true, false, if◌then◌else◌}
+use Rattle.std.specs.Prelude.{ℕ, Bool, List, [], ◌∷◌, ◌++◌, map, Option, Some, None, slice_get, unwrap_or, option_and_then, false, if◌then◌else◌}
 use Rattle.std.specs.Option.{option_map, option_map_or}
 use Rattle.lint_tables.specs.declared.op.Op.TheVariants.{Eq}
 use Rattle.lint_core.specs.declared.condition.Entry.{Entry}
@@ -46,6 +46,23 @@ abbrev pub exists_truth : List Inner → Truth
 exists_truth [] = False
 exists_truth (inner ∷ others) = True
 
+-- IN: true where some comparison is true, else unknown where some is unknown, else false
+abbrev pub in_truth : Value → List Value → Truth
+in_truth left items = or_of (map (λ item. compare Eq left item) items)
+
+-- the one value that a scalar subquery gives: NULL for no row, and none for two rows
+abbrev pub scalar_value : List Value → Option Value
+scalar_value [] = Some value.Null
+scalar_value (item ∷ []) = Some item
+scalar_value (item ∷ other ∷ items) = None
+
+-- the meanings of a condition and of a block, by the tables and the binding of the levels outside
+abbrev pub Meaning : Type 0
+Meaning = List (List ℕ) → List (List ℕ) → Option Truth
+
+abbrev pub BlockMeaning : Type 0
+BlockMeaning = List (List ℕ) → List (List ℕ) → List Inner
+
 module _ (db : Database) where
   -- the row of an entry
   abbrev pub place_of : List (List ℕ) → List (List ℕ) → ℕ → ℕ → Option Place
@@ -66,23 +83,6 @@ module _ (db : Database) where
   -- what the block selects at the inner bindings
   abbrev pub items_at : Term → List Inner → List Value
   items_at item inners = map (λ (inner : Inner). term_value inner.tables inner.binding item) inners
-
-  -- IN: true where some comparison is true, else unknown where some is unknown, else false
-  abbrev pub in_truth : Value → List Value → Truth
-  in_truth left items = or_of (map (λ item. compare Eq left item) items)
-
-  -- the one value that a scalar subquery gives: NULL for no row, and none for two rows
-  abbrev pub scalar_value : List Value → Option Value
-  scalar_value [] = Some value.Null
-  scalar_value (item ∷ []) = Some item
-  scalar_value (item ∷ other ∷ items) = None
-
-  -- the meanings of a condition and of a block, by the tables and the binding of the levels outside
-  abbrev pub Meaning : Type 0
-  Meaning = List (List ℕ) → List (List ℕ) → Option Truth
-
-  abbrev pub BlockMeaning : Type 0
-  BlockMeaning = List (List ℕ) → List (List ℕ) → List Inner
 
   -- one more level, with each list of rows of the block's tables
   abbrev pub inner_bindings : List ℕ → Meaning → BlockMeaning
