@@ -256,15 +256,15 @@ module _ (schema : List Table) (query : Query) (table : Table) where
   query_passes conjuncts form =
       let n = length table.columns in
       let fit = fit_both n conjuncts (recursion_from_All (λ (x : Conjunct). is_one_range x.op ≡ true) conjuncts form.ranges)
-          (recursion_from_All (λ (x : Conjunct). x.column < n) conjuncts form.columns_exist) in
+      (recursion_from_All (λ (x : Conjunct). x.column < n) conjuncts form.columns_exist) in
       let filter_is : is_where n query.block.cond ≡ true = ap (is_where n) form.filter ∙ where_passes n conjuncts form.some form.few fit in
       let item_is : is_one (is_plain_item n) query.items ≡ true =
-          ap (is_one (is_plain_item n)) form.one_item.2
-          ∙ and_from (is_column n form.one_item.0.term) (not form.one_item.0.star)
-          (ap (is_column n) form.one_item.3 ∙ column_passes n form.one_item.1 form.one_item.5)
-          (ap not form.one_item.4) in
+      ap (is_one (is_plain_item n)) form.one_item.2
+      ∙ and_from (is_column n form.one_item.0.term) (not form.one_item.0.star)
+      (ap (is_column n) form.one_item.3 ∙ column_passes n form.one_item.1 form.one_item.5)
+      (ap not form.one_item.4) in
       let entry_is : is_one is_plain_entry query.block.entries ≡ true =
-          ap (is_one is_plain_entry) form.one_entry.1 ∙ ap (λ t. nat_eq t 0) form.one_entry.2 in
+      ap (is_one is_plain_entry) form.one_entry.1 ∙ ap (λ t. nat_eq t 0) form.one_entry.2 in
       rw (form.no_distinct, item_is, entry_is, filter_is, form.no_order) refl
 
 pub form_found : (schema : List Table) (query : Query) → is_first_form schema query ≡ true →

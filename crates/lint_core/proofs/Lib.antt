@@ -4,7 +4,7 @@ mod Inside
 mod Named
 mod Holds
 mod Realized
-mod Conditions
+pub mod Conditions
 mod Edges
 mod Steps
 mod Comparisons

@@ -64,8 +64,8 @@ module _ (db : Database) where
   abbrev pub foreign_met : ℕ → ForeignKey → Bool
   foreign_met table foreign =
       list_all (λ (place : Place).
-        list_any (λ column. is_null (value_in place column)) foreign.columns
-        || list_any (λ (target : Place). agree place foreign.columns target foreign.target_columns) (places_of db foreign.target))
+      list_any (λ column. is_null (value_in place column)) foreign.columns
+      || list_any (λ (target : Place). agree place foreign.columns target foreign.target_columns) (places_of db foreign.target))
       (places_of db table)
 
   -- the constraints of a table, which has this number
