@@ -13,3 +13,4 @@ mod Failures
 mod Levels
 mod Fitting
 mod FirstForms
+mod Examples

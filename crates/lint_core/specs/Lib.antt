@@ -16,3 +16,4 @@ pub mod Kind
 pub mod Fits
 pub mod Levels
 pub mod Schema
+pub mod Examples

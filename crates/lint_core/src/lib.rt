@@ -12,6 +12,7 @@
 //! it), `accepted_steps_refute` (a sentence that accepted steps refute holds in no database of the
 //! schema), and `certified_question_holds`, which follows from these. `accepted_steps_refute` is about
 //! every schema and sentence; the laws about queries are about those of the first form.
+//! `worked_truths` and `worked_constraints` show the meaning by small examples (`Examples`).
 #![tactic(auto)]
 
 mod certificate;
@@ -25,6 +26,7 @@ mod laws;
 mod query;
 mod run;
 mod schema;
+mod worked;
 
 pub use certificate::{Cert, Step, SumEdge};
 pub use condition::{Block, Cond, Entry, Term};
@@ -37,3 +39,4 @@ pub use laws::{
 pub use query::{Item, Query, Question};
 pub use run::{Answer, QueryResult, QueryRun, Run};
 pub use schema::{Column, Domain, ForeignKey, Key, Schema, Table, Unit};
+pub use worked::{worked_constraints, worked_truths};
