@@ -14,7 +14,7 @@ use Rattle.lint_core.specs.declared.condition.Block.{Block, fold-Block, fold_out
 use Rattle.lint_core.specs.declared.database.Truth.TheVariants.{False, True}
 use Rattle.lint_core.specs.declared.database.Database.{Database}
 use Rattle.lint_core.specs.Condition.{truth, Meaning, BlockMeaning, cond_step, block_step, all_present, inner_bindings, term_value, selected, exists_truth, in_truth, items_at, scalar_value}
-use Rattle.lint_core.specs.Truth.{truth_of, negation, negated_if, and_of, or_of}
+use Rattle.lint_core.specs.Truth.{truth_of, not_of, negated_if, and_of, or_of}
 use Rattle.lint_core.specs.Comparison.{compare, is_null}
 
 module _ (db : Database) where
@@ -56,7 +56,7 @@ module _ (db : Database) where
   truth_false tables binding = ap (λ m. m tables binding) (truth_out c.False ∙ ap layer_truth c.outs-False)
 
   pub truth_not : (part : Cond) (tables binding : List (List ℕ)) →
-      truth db (c.Not part) tables binding ≡ option_map negation (truth db part tables binding)
+      truth db (c.Not part) tables binding ≡ option_map not_of (truth db part tables binding)
   truth_not part tables binding = ap (λ m. m tables binding) (truth_out (c.Not part) ∙ ap layer_truth (c.outs-Not part))
 
   pub truth_is_null : (term : Term) (negated : Bool) (span : Span) (tables binding : List (List ℕ)) →

@@ -17,7 +17,7 @@ use Rattle.lint_core.specs.declared.database.Truth.{Truth}
 use Rattle.lint_core.specs.declared.database.Truth.TheVariants.{False, True}
 use Rattle.lint_core.specs.declared.database.Database.{Database}
 use Rattle.lint_core.specs.Database.{Place, value_at, row_lists}
-use Rattle.lint_core.specs.Truth.{truth_of, negation, negated_if, and_of, or_of, is_true, is_false}
+use Rattle.lint_core.specs.Truth.{truth_of, not_of, negated_if, and_of, or_of, is_true, is_false}
 use Rattle.lint_core.specs.Comparison.{compare, plus, is_null}
 
 -- what stands at a level and an entry
@@ -100,7 +100,7 @@ module _ (db : Database) where
   cond_step Cond-F.False tables binding = Some False
   cond_step (Cond-F.And parts) tables binding = option_map and_of (all_present (map (λ part. part tables binding) parts))
   cond_step (Cond-F.Or parts) tables binding = option_map or_of (all_present (map (λ part. part tables binding) parts))
-  cond_step (Cond-F.Not part) tables binding = option_map negation (part tables binding)
+  cond_step (Cond-F.Not part) tables binding = option_map not_of (part tables binding)
   cond_step (Cond-F.Compare op left right span) tables binding =
       Some (compare op (term_value tables binding left) (term_value tables binding right))
   cond_step (Cond-F.IsNull term negated span) tables binding =

@@ -20,14 +20,14 @@ is_false True = false
 is_false Unknown = false
 is_false False = true
 
-abbrev pub negation : Truth → Truth
-negation True = False
-negation Unknown = Unknown
-negation False = True
+abbrev pub not_of : Truth → Truth
+not_of True = False
+not_of Unknown = Unknown
+not_of False = True
 
--- the negation where the predicate is written with NOT, else the truth itself
+-- NOT where the predicate is written with NOT, else the truth itself
 abbrev pub negated_if : Bool → Truth → Truth
-negated_if negated truth = if negated then negation truth else truth
+negated_if negated truth = if negated then not_of truth else truth
 
 abbrev pub least : Truth → Truth → Truth
 least False b = False

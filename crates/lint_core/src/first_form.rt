@@ -137,3 +137,186 @@ impl Query {
         }
     }
 }
+
+#[cfg(test)]
+mod tests {
+    use crate::condition::{Block, Cond, Entry, Term};
+    use crate::query::{Item, Query};
+    use crate::schema::{Column, Domain, Key, Schema, Table, Unit};
+    use lint_base::{Items, NoMemory, Span, Str};
+    use lint_tables::Op;
+    use std::alloc::Global;
+    use std::test::Fail;
+
+    const NOWHERE: Span = Span { from: 0, to: 0 };
+
+    /// What sets a query apart from `SELECT A FROM T WHERE A > 5` over a table of one INTEGER column.
+    #[derive(Clone, Copy, Debug, PartialEq, Eq)]
+    enum Change {
+        Nothing,
+        NotEqual,
+        Plus,
+        NoSuchColumn,
+        AgainstColumn,
+        AgainstNull,
+        AndOfOne,
+        AndOfTwo,
+        OrOfTwo,
+        Star,
+        Distinct,
+        Order,
+        TwoEntries,
+        NotNull,
+        TextColumn,
+        Unique,
+    }
+
+    fn cell(column: u32, plus: i64) -> Term {
+        Term::Cell {
+            level: 0,
+            entry: 0,
+            column,
+            plus,
+        }
+    }
+
+    fn comparison(change: Change) -> Cond {
+        Cond::Compare {
+            op: if change == Change::NotEqual {
+                Op::Ne
+            } else {
+                Op::Gt
+            },
+            left: match change {
+                Change::Plus => cell(0, 1),
+                Change::NoSuchColumn => cell(1, 0),
+                _ => cell(0, 0),
+            },
+            right: match change {
+                Change::AgainstColumn => cell(0, 0),
+                Change::AgainstNull => Term::Null,
+                _ => Term::Number {
+                    value: 5,
+                    unit: Unit::Whole,
+                },
+            },
+            span: NOWHERE,
+        }
+    }
+
+    fn filter(alloc: Global, change: Change) -> Result<Cond, NoMemory> {
+        let mut parts = Items::new(alloc);
+        parts.push(comparison(change))?;
+        match change {
+            Change::AndOfOne => Ok(Cond::And(parts)),
+            Change::AndOfTwo => {
+                parts.push(comparison(change))?;
+                Ok(Cond::And(parts))
+            }
+            Change::OrOfTwo => {
+                parts.push(comparison(change))?;
+                Ok(Cond::Or(parts))
+            }
+            _ => Ok(comparison(change)),
+        }
+    }
+
+    fn entries(alloc: Global, count: u32) -> Result<Items<Entry>, NoMemory> {
+        let mut entries = Items::new(alloc);
+        for _ in 0..count {
+            entries.push(Entry {
+                table: 0,
+                name: Str::from_str(alloc, "T")?,
+                span: NOWHERE,
+            })?;
+        }
+        Ok(entries)
+    }
+
+    fn query(alloc: Global, change: Change) -> Result<Query, NoMemory> {
+        let mut items = Items::new(alloc);
+        items.push(Item {
+            term: cell(0, 0),
+            star: change == Change::Star,
+            span: NOWHERE,
+        })?;
+        let mut order = Items::new(alloc);
+        if change == Change::Order {
+            order.push(cell(0, 0))?;
+        }
+        let count = if change == Change::TwoEntries { 2 } else { 1 };
+        Ok(Query {
+            distinct: if change == Change::Distinct {
+                Some(NOWHERE)
+            } else {
+                None
+            },
+            items,
+            block: Block {
+                entries: entries(alloc, count)?,
+                cond: filter(alloc, change)?,
+                span: NOWHERE,
+            },
+            order,
+        })
+    }
+
+    fn schema(alloc: Global, change: Change) -> Result<Option<Schema>, NoMemory> {
+        let mut columns = Items::new(alloc);
+        columns.push(Column {
+            name: Str::from_str(alloc, "A")?,
+            domain: match change {
+                Change::TextColumn => Domain::Text { length: 3 },
+                _ => Domain::Number {
+                    least: -2147483648,
+                    greatest: 2147483647,
+                    unit: Unit::Whole,
+                },
+            },
+            not_null: change == Change::NotNull,
+        })?;
+        let mut keys = Items::new(alloc);
+        if change == Change::Unique {
+            let mut key = Items::new(alloc);
+            key.push(0)?;
+            keys.push(Key { columns: key })?;
+        }
+        let mut tables = Items::new(alloc);
+        tables.push(Table {
+            name: Str::from_str(alloc, "T")?,
+            columns,
+            keys,
+            checks: Items::new(alloc),
+            foreign: Items::new(alloc),
+        })?;
+        Ok(Schema::new(tables))
+    }
+
+    #[test]
+    fn first_form_is_told_from_others(rt: HostRuntime) -> Result<(), Fail> {
+        let alloc = rt.alloc();
+        for (change, first) in [
+            (Change::Nothing, true),
+            (Change::AndOfTwo, true),
+            (Change::NotEqual, false),
+            (Change::Plus, false),
+            (Change::NoSuchColumn, false),
+            (Change::AgainstColumn, false),
+            (Change::AgainstNull, false),
+            (Change::AndOfOne, false),
+            (Change::OrOfTwo, false),
+            (Change::Star, false),
+            (Change::Distinct, false),
+            (Change::Order, false),
+            (Change::TwoEntries, false),
+            (Change::NotNull, false),
+            (Change::TextColumn, false),
+            (Change::Unique, false),
+        ] {
+            let schema = schema(alloc, change)?.ok_or("a schema")?;
+            let query = query(alloc, change)?;
+            assert_eq!(rt; query.is_first_form(&schema), first, "{change:?}");
+        }
+        Ok(())
+    }
+}
