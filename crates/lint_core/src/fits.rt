@@ -344,3 +344,395 @@ impl Query {
             && order_fits(self.order.as_slice(), tables, levels)
     }
 }
+
+#[cfg(test)]
+mod tests {
+    use super::*;
+    use crate::database::Value;
+    use crate::schema::{Column, Domain, Unit};
+    use lint_base::{Items, NoMemory, Span, Str};
+    use sqlite_items::Boxed;
+    use std::alloc::Global;
+    use std::test::Fail;
+
+    const PLACE: Span = Span { from: 0, to: 1 };
+
+    /// A term of the tests. Column 0 of their table is a number, column 1 a text.
+    #[derive(Clone, Copy, Debug, PartialEq, Eq)]
+    enum Side {
+        Cell(u32, u32, u32, i64),
+        Five,
+        Word,
+        Null,
+    }
+
+    use Side::{Cell, Five, Null, Word};
+
+    const NUMBER: Side = Cell(0, 0, 0, 0);
+
+    const TEXT: Side = Cell(0, 0, 1, 0);
+
+    fn term(alloc: Global, side: Side) -> Result<Term, NoMemory> {
+        match side {
+            Cell(level, entry, column, plus) => Ok(Term::Cell {
+                level,
+                entry,
+                column,
+                plus,
+            }),
+            Five => Ok(Term::Number {
+                value: 5,
+                unit: Unit::Whole,
+            }),
+            Word => Ok(Term::Text(Str::from_str(alloc, "x")?)),
+            Null => Ok(Term::Null),
+        }
+    }
+
+    fn compare(alloc: Global, left: Side, op: Op, right: Side) -> Result<Cond, NoMemory> {
+        Ok(Cond::Compare {
+            op,
+            left: term(alloc, left)?,
+            right: term(alloc, right)?,
+            span: PLACE,
+        })
+    }
+
+    fn is_null(alloc: Global, side: Side) -> Result<Cond, NoMemory> {
+        Ok(Cond::IsNull {
+            term: term(alloc, side)?,
+            negated: false,
+            span: PLACE,
+        })
+    }
+
+    fn and_trues(alloc: Global, count: u32) -> Result<Cond, NoMemory> {
+        let mut parts = Items::new(alloc);
+        for _ in 0..count {
+            parts.push(Cond::True)?;
+        }
+        Ok(Cond::And(parts))
+    }
+
+    fn block(alloc: Global, table: u32, count: u32, cond: Cond) -> Result<Block, NoMemory> {
+        let mut entries = Items::new(alloc);
+        for _ in 0..count {
+            entries.push(Entry {
+                table,
+                name: Str::from_str(alloc, "E")?,
+                span: PLACE,
+            })?;
+        }
+        Ok(Block {
+            entries,
+            cond,
+            span: PLACE,
+        })
+    }
+
+    fn exists(alloc: Global, block: Block) -> Result<Cond, NoMemory> {
+        Ok(Cond::Exists {
+            block: Boxed::new(alloc, block)?,
+            span: PLACE,
+        })
+    }
+
+    fn one_table(alloc: Global, check: Cond) -> Result<Items<Table>, NoMemory> {
+        let mut columns = Items::new(alloc);
+        columns.push(Column {
+            name: Str::from_str(alloc, "N")?,
+            domain: Domain::Number {
+                least: -32768,
+                greatest: 32767,
+                unit: Unit::Whole,
+            },
+            not_null: false,
+        })?;
+        columns.push(Column {
+            name: Str::from_str(alloc, "S")?,
+            domain: Domain::Text { length: 9 },
+            not_null: true,
+        })?;
+        let mut checks = Items::new(alloc);
+        checks.push(check)?;
+        let mut tables = Items::new(alloc);
+        tables.push(Table {
+            name: Str::from_str(alloc, "T")?,
+            columns,
+            keys: Items::new(alloc),
+            checks,
+            foreign: Items::new(alloc),
+        })?;
+        Ok(tables)
+    }
+
+    fn query(
+        alloc: Global,
+        item: Side,
+        count: u32,
+        order: Side,
+        block: Block,
+    ) -> Result<Query, NoMemory> {
+        let mut items = Items::new(alloc);
+        for _ in 0..count {
+            items.push(Item {
+                term: term(alloc, item)?,
+                star: true,
+                span: PLACE,
+            })?;
+        }
+        let mut keys = Items::new(alloc);
+        keys.push(term(alloc, order)?)?;
+        Ok(Query {
+            distinct: Some(PLACE),
+            items,
+            block,
+            order: keys,
+        })
+    }
+
+    /// Whether a query over two rows of the table fits with this condition, and its copy too.
+    fn fits(alloc: Global, cond: Cond) -> Result<bool, Fail> {
+        let schema = Schema::new(one_table(alloc, Cond::True)?).ok_or("a schema")?;
+        let query = query(alloc, NUMBER, 1, TEXT, block(alloc, 0, 2, cond)?)?;
+        let copy = query.copy(alloc)?;
+        Ok(query.fits(&schema) && copy.fits(&schema))
+    }
+
+    #[test]
+    fn comparisons_fit(rt: HostRuntime) -> Result<(), Fail> {
+        let alloc = rt.alloc();
+        for (left, op, right, expected) in [
+            (Cell(0, 1, 0, 7), Op::Lt, Five, true),
+            // no such level, entry or column, on either side
+            (Cell(1, 0, 0, 0), Op::Eq, Five, false),
+            (Cell(0, 2, 0, 0), Op::Eq, Five, false),
+            (Cell(0, 0, 2, 0), Op::Eq, Five, false),
+            (Five, Op::Eq, Cell(0, 0, 2, 0), false),
+            // texts by = and <> alone
+            (TEXT, Op::Eq, Word, true),
+            (TEXT, Op::Ne, TEXT, true),
+            (TEXT, Op::Lt, Word, false),
+            (Word, Op::Ge, TEXT, false),
+            // a number beside a text
+            (NUMBER, Op::Eq, Word, false),
+            (TEXT, Op::Ne, Five, false),
+            // NULL goes with both
+            (NUMBER, Op::Lt, Null, true),
+            (Null, Op::Eq, TEXT, true),
+            (Null, Op::Gt, TEXT, false),
+            (TEXT, Op::Le, Null, false),
+            (Null, Op::Ge, Null, true),
+            // nothing is added to a text
+            (Cell(0, 0, 1, 1), Op::Eq, TEXT, false),
+        ] {
+            let cond = compare(alloc, left, op, right)?;
+            assert_eq!(rt; fits(alloc, cond)?, expected, "{left:?} {op:?} {right:?}");
+        }
+        Ok(())
+    }
+
+    /// The condition, negated, in a conjunction and in a disjunction.
+    fn wrapped(alloc: Global, form: u32, cond: Cond) -> Result<Cond, NoMemory> {
+        if form == 0 {
+            return Ok(cond);
+        }
+        if form == 1 {
+            return Ok(Cond::Not(Boxed::new(alloc, cond)?));
+        }
+        let mut parts = Items::new(alloc);
+        parts.push(Cond::False)?;
+        parts.push(cond)?;
+        Ok(if form == 2 {
+            Cond::And(parts)
+        } else {
+            Cond::Or(parts)
+        })
+    }
+
+    #[test]
+    fn parts_fit(rt: HostRuntime) -> Result<(), Fail> {
+        let alloc = rt.alloc();
+        for (side, expected) in [
+            (Cell(0, 0, 0, 1), true),
+            (TEXT, true),
+            (Cell(0, 0, 1, 1), false),
+            (Cell(0, 0, 2, 0), false),
+            (Null, true),
+            (Word, true),
+        ] {
+            for form in 0..4 {
+                let cond = wrapped(alloc, form, is_null(alloc, side)?)?;
+                assert_eq!(rt; fits(alloc, cond)?, expected, "{side:?} in form {form}");
+            }
+        }
+        Ok(())
+    }
+
+    #[test]
+    fn subqueries_fit(rt: HostRuntime) -> Result<(), Fail> {
+        let alloc = rt.alloc();
+        let inner = Cell(1, 0, 0, 0);
+        let inner_text = Cell(1, 0, 1, 0);
+        for (left, op, item, table, filter, expected) in [
+            (NUMBER, Op::Lt, inner, 0, NUMBER, true),
+            (NUMBER, Op::Lt, NUMBER, 0, inner, true),
+            // a text by <, which IN has not
+            (TEXT, Op::Lt, inner_text, 0, inner, false),
+            (TEXT, Op::Eq, inner_text, 0, inner, true),
+            (NUMBER, Op::Eq, inner_text, 0, inner, false),
+            (NUMBER, Op::Eq, Null, 0, inner, true),
+            // no such cell in the term, the item, the FROM list or the filter
+            (inner, Op::Eq, inner, 0, inner, false),
+            (NUMBER, Op::Eq, Cell(1, 1, 0, 0), 0, inner, false),
+            (NUMBER, Op::Eq, Cell(2, 0, 0, 0), 0, inner, false),
+            (NUMBER, Op::Eq, Five, 1, Five, false),
+            (NUMBER, Op::Eq, inner, 0, Cell(1, 0, 2, 0), false),
+            // the filter compares a number, and nothing is added to an item
+            (NUMBER, Op::Eq, inner, 0, inner_text, false),
+            (NUMBER, Op::Eq, Cell(1, 0, 0, 1), 0, inner, false),
+        ] {
+            let filter = compare(alloc, filter, Op::Lt, Five)?;
+            let cond = Cond::Scalar {
+                op,
+                left: term(alloc, left)?,
+                block: Boxed::new(alloc, block(alloc, table, 1, filter)?)?,
+                item: term(alloc, item)?,
+                span: PLACE,
+            };
+            assert_eq!(rt;
+                fits(alloc, cond)?,
+                expected,
+                "{left:?} {op:?} {item:?} of {table}"
+            );
+        }
+        Ok(())
+    }
+
+    #[test]
+    fn in_and_exists_fit(rt: HostRuntime) -> Result<(), Fail> {
+        let alloc = rt.alloc();
+        for (item, filter, expected) in [
+            (Cell(1, 0, 1, 0), Cell(1, 0, 0, 0), true),
+            (Cell(1, 0, 0, 0), Cell(1, 0, 0, 0), false),
+            (Cell(1, 0, 1, 0), Cell(1, 0, 1, 0), false),
+            (Cell(1, 0, 1, 0), Cell(1, 1, 0, 0), false),
+        ] {
+            let within = compare(alloc, filter, Op::Lt, NUMBER)?;
+            let is_in = Cond::In {
+                term: term(alloc, TEXT)?,
+                block: Boxed::new(alloc, block(alloc, 0, 1, within)?)?,
+                item: term(alloc, item)?,
+                negated: true,
+                span: PLACE,
+            };
+            assert_eq!(rt; fits(alloc, is_in)?, expected, "{item:?} with {filter:?}");
+        }
+        for (filter, expected) in [
+            (Cell(2, 0, 0, 0), true),
+            (Cell(2, 1, 0, 0), false),
+            (Cell(1, 0, 1, 0), false),
+        ] {
+            let within = compare(alloc, filter, Op::Lt, Cell(1, 0, 0, 0))?;
+            let inside = exists(alloc, block(alloc, 0, 1, within)?)?;
+            let outside = exists(alloc, block(alloc, 0, 1, inside)?)?;
+            assert_eq!(rt; fits(alloc, outside)?, expected, "{filter:?} two levels in");
+        }
+        Ok(())
+    }
+
+    #[test]
+    fn selections_fit(rt: HostRuntime) -> Result<(), Fail> {
+        let alloc = rt.alloc();
+        let schema = Schema::new(one_table(alloc, Cond::True)?).ok_or("a schema")?;
+        for (item, count, order, table, entries, expected) in [
+            (TEXT, 256, NUMBER, 0, 16, true),
+            (TEXT, 257, NUMBER, 0, 16, false),
+            (TEXT, 1, NUMBER, 0, 17, false),
+            (TEXT, 1, NUMBER, 1, 1, false),
+            (Word, 1, NUMBER, 0, 1, true),
+            (Cell(0, 0, 0, 1), 1, NUMBER, 0, 1, false),
+            (Cell(0, 1, 0, 0), 1, NUMBER, 0, 1, false),
+            (NUMBER, 1, Cell(0, 0, 0, 1), 0, 1, false),
+            (NUMBER, 1, Cell(0, 0, 2, 0), 0, 1, false),
+            (NUMBER, 1, Five, 0, 1, false),
+        ] {
+            let from = block(alloc, table, entries, Cond::True)?;
+            let query = query(alloc, item, count, order, from)?;
+            assert_eq!(rt;
+                query.fits(&schema),
+                expected,
+                "{count} {item:?} of {entries}"
+            );
+        }
+        Ok(())
+    }
+
+    #[test]
+    fn conditions_are_counted(rt: HostRuntime) -> Result<(), Fail> {
+        let alloc = rt.alloc();
+        for (trues, inside, expected) in [
+            (65_535, false, true),
+            (65_536, false, false),
+            (65_534, true, true),
+            (65_535, true, false),
+        ] {
+            let within = and_trues(alloc, trues)?;
+            let cond = if inside {
+                exists(alloc, block(alloc, 0, 1, within)?)?
+            } else {
+                within
+            };
+            assert_eq!(rt; fits(alloc, cond)?, expected, "{trues} inside {inside}");
+        }
+        for (trues, expected) in [(65_535, true), (65_536, false)] {
+            let tables = one_table(alloc, and_trues(alloc, trues)?)?;
+            assert_eq!(rt;
+                Schema::new(tables).is_some(),
+                expected,
+                "a CHECK of {trues}"
+            );
+        }
+        Ok(())
+    }
+
+    #[test]
+    fn checks_fit_their_table(rt: HostRuntime) -> Result<(), Fail> {
+        let alloc = rt.alloc();
+        for (left, op, right, expected) in [
+            (Cell(0, 0, 0, 1), Op::Lt, Five, true),
+            (Cell(0, 1, 0, 0), Op::Lt, Five, false),
+            (Cell(1, 0, 0, 0), Op::Lt, Five, false),
+            (Cell(0, 0, 2, 0), Op::Lt, Five, false),
+            (TEXT, Op::Lt, Word, false),
+        ] {
+            for form in 0..4 {
+                let check = wrapped(alloc, form, compare(alloc, left, op, right)?)?;
+                let schema = Schema::new(one_table(alloc, check)?);
+                assert_eq!(rt; schema.is_some(), expected, "{left:?} {op:?} {right:?}");
+            }
+        }
+        for form in 0..4 {
+            let inside = exists(alloc, block(alloc, 0, 1, Cond::True)?)?;
+            let schema = Schema::new(one_table(alloc, wrapped(alloc, form, inside)?)?);
+            assert_eq!(rt; schema.is_some(), false, "a subquery in form {form}");
+        }
+        Ok(())
+    }
+
+    #[test]
+    fn copies_hold_what_was_given(rt: HostRuntime) -> Result<(), Fail> {
+        let alloc = rt.alloc();
+        let word = Value::Text(Str::from_str(alloc, "x")?);
+        assert!(rt; matches!(word.copy(alloc)?, Value::Text(text) if text.as_str() == "x"));
+        assert!(rt; matches!(Value::Int(-3).copy(alloc)?, Value::Int(-3)));
+        assert!(rt; matches!(Value::Null.copy(alloc)?, Value::Null));
+        let copy = compare(alloc, Word, Op::Ne, Five)?.copy(alloc)?;
+        let Cond::Compare { left, right, .. } = copy else {
+            return Err("a comparison")?;
+        };
+        assert!(rt; matches!(left, Term::Text(text) if text.as_str() == "x"));
+        assert!(rt; matches!(right.copy(alloc)?, Term::Number { value: 5, .. }));
+        Ok(())
+    }
+}

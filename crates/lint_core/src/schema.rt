@@ -352,3 +352,210 @@ impl Table {
         }
     }
 }
+
+#[cfg(test)]
+mod tests {
+    use super::*;
+    use lint_base::NoMemory;
+    use std::alloc::Global;
+    use std::test::Fail;
+
+    const SMALL: Domain = Domain::Number {
+        least: -32768,
+        greatest: 32767,
+        unit: Unit::Whole,
+    };
+
+    const INTEGER: Domain = Domain::Number {
+        least: -2147483648,
+        greatest: 2147483647,
+        unit: Unit::Whole,
+    };
+
+    const TEXT: Domain = Domain::Text { length: 9 };
+
+    fn number(least: i64, greatest: i64) -> Domain {
+        Domain::Number {
+            least,
+            greatest,
+            unit: Unit::Whole,
+        }
+    }
+
+    fn positions(alloc: Global, from: &[u32]) -> Result<Items<u32>, NoMemory> {
+        Ok(Items::from_vec(Vec::from_slice(alloc, from)?))
+    }
+
+    fn table_of(alloc: Global, domains: &[Domain]) -> Result<Table, NoMemory> {
+        let mut columns = Items::new(alloc);
+        for domain in domains {
+            columns.push(Column {
+                name: Str::from_str(alloc, "c")?,
+                domain: *domain,
+                not_null: false,
+            })?;
+        }
+        Ok(Table {
+            name: Str::from_str(alloc, "t")?,
+            columns,
+            keys: Items::new(alloc),
+            checks: Items::new(alloc),
+            foreign: Items::new(alloc),
+        })
+    }
+
+    fn add_key(alloc: Global, table: &mut Table, columns: &[u32]) -> Result<(), NoMemory> {
+        table.keys.push(Key {
+            columns: positions(alloc, columns)?,
+        })
+    }
+
+    fn add_foreign(
+        alloc: Global,
+        table: &mut Table,
+        columns: &[u32],
+        target: u32,
+        target_columns: &[u32],
+    ) -> Result<(), NoMemory> {
+        table.foreign.push(ForeignKey {
+            columns: positions(alloc, columns)?,
+            target,
+            target_columns: positions(alloc, target_columns)?,
+        })
+    }
+
+    #[test]
+    fn accepts_known_domains(rt: HostRuntime) -> Result<(), Fail> {
+        let alloc = rt.alloc();
+        for (domain, accepted) in [
+            (SMALL, true),
+            (INTEGER, true),
+            (number(-9223372036854775808, 9223372036854775807), true),
+            (number(-32768, 32766), false),
+            (number(-32767, 32767), false),
+            (number(0, 65535), false),
+            (number(-32768, 2147483647), false),
+            (Domain::Text { length: 0 }, false),
+            (Domain::Text { length: 1 }, true),
+            (Domain::Text { length: 65535 }, true),
+            (Domain::Text { length: 65536 }, false),
+        ] {
+            let mut tables = Items::new(alloc);
+            tables.push(table_of(alloc, &[SMALL, domain])?)?;
+            assert_eq!(rt; Schema::new(tables).is_some(), accepted, "{domain:?}");
+        }
+        Ok(())
+    }
+
+    fn schema_of_sizes(alloc: Global, sizes: [u32; 5]) -> Result<Option<Schema>, NoMemory> {
+        let [tables, columns, keys, checks, foreign] = sizes;
+        let mut list = Items::new(alloc);
+        for _ in 1..tables {
+            list.push(table_of(alloc, &[SMALL])?)?;
+        }
+        let mut domains = Vec::new(alloc);
+        for _ in 0..columns {
+            domains.push(SMALL)?;
+        }
+        let mut last = table_of(alloc, &domains)?;
+        for _ in 0..keys {
+            add_key(alloc, &mut last, &[0])?;
+        }
+        for _ in 0..checks {
+            last.checks.push(Cond::True)?;
+        }
+        for _ in 0..foreign {
+            add_foreign(alloc, &mut last, &[0], tables.saturating_sub(1), &[0])?;
+        }
+        list.push(last)?;
+        Ok(Schema::new(list))
+    }
+
+    #[test]
+    fn accepts_sizes_within_the_limits(rt: HostRuntime) -> Result<(), Fail> {
+        let alloc = rt.alloc();
+        for (sizes, accepted) in [
+            ([1, 0, 0, 0, 0], true),
+            ([200, 1, 1, 1, 1], true),
+            ([201, 1, 1, 1, 1], false),
+            ([1, 64, 1, 1, 1], true),
+            ([1, 65, 1, 1, 1], false),
+            ([1, 1, 1000, 1, 1], true),
+            ([1, 1, 1001, 1, 1], false),
+            ([1, 1, 1, 1000, 1], true),
+            ([1, 1, 1, 1001, 1], false),
+            ([1, 1, 1, 1, 1000], true),
+            ([1, 1, 1, 1, 1001], false),
+        ] {
+            let schema = schema_of_sizes(alloc, sizes)?;
+            assert_eq!(rt; schema.is_some(), accepted, "{sizes:?}");
+            if let Some(schema) = schema {
+                assert_eq!(rt; schema.tables().as_slice().len(), sizes[0] as usize);
+            }
+        }
+        Ok(())
+    }
+
+    #[test]
+    fn accepts_keys_of_existing_columns(rt: HostRuntime) -> Result<(), Fail> {
+        let alloc = rt.alloc();
+        for (key, accepted) in [
+            (&[2][..], true),
+            (&[3], false),
+            (&[0, 1], true),
+            (&[1, 3], false),
+        ] {
+            let mut table = table_of(alloc, &[SMALL, TEXT, INTEGER])?;
+            add_key(alloc, &mut table, key)?;
+            let mut tables = Items::new(alloc);
+            tables.push(table)?;
+            assert_eq!(rt; Schema::new(tables).is_some(), accepted, "{key:?}");
+        }
+        Ok(())
+    }
+
+    #[test]
+    fn accepts_foreign_keys_to_keys(rt: HostRuntime) -> Result<(), Fail> {
+        let alloc = rt.alloc();
+        let cases: [(&[u32], u32, &[u32], bool); 15] = [
+            (&[2], 0, &[0], true),
+            // a SMALLINT beside an INTEGER
+            (&[0], 0, &[0], true),
+            // a text beside a number
+            (&[1], 0, &[0], false),
+            (&[3], 0, &[0], false),
+            (&[2], 0, &[4], false),
+            // to its own table, and to none
+            (&[2], 1, &[0], true),
+            (&[2], 2, &[0], false),
+            // a key in either order, but each column beside one of its kind
+            (&[0, 1], 0, &[1, 2], true),
+            (&[1, 0], 0, &[2, 1], true),
+            (&[1, 0], 0, &[1, 2], false),
+            // a part of a key, and lists that differ in length
+            (&[0], 0, &[1], false),
+            (&[0, 1], 0, &[1], false),
+            (&[0], 0, &[1, 2], false),
+            // not the same set, and more columns than the key
+            (&[0, 0], 0, &[1, 1], false),
+            (&[0, 1, 0], 0, &[1, 2, 1], false),
+        ];
+        for (columns, target, target_columns, accepted) in cases {
+            let mut first = table_of(alloc, &[INTEGER, SMALL, TEXT, TEXT])?;
+            add_key(alloc, &mut first, &[0])?;
+            add_key(alloc, &mut first, &[1, 2])?;
+            let mut second = table_of(alloc, &[SMALL, TEXT, INTEGER])?;
+            add_key(alloc, &mut second, &[0])?;
+            add_foreign(alloc, &mut second, columns, target, target_columns)?;
+            let mut tables = Items::new(alloc);
+            tables.push(first)?;
+            tables.push(second)?;
+            assert_eq!(rt;
+                Schema::new(tables).is_some(),
+                accepted,
+                "{columns:?} to {target} {target_columns:?}"
+            );
+        }
+        Ok(())
+    }
+}
