@@ -1,6 +1,6 @@
 -- Which values may stand beside each other: numbers of one unit are of one kind, and so are all texts
--- (ISO/IEC 9075:1992, 4.1: comparable data types). NULL as a term has no kind of its own.
-use Rattle.std.specs.Prelude.{ℕ, Bool, true, false, ◌&&◌, ◌||◌, not, Option, Some, None, slice_get, option_and_then, ℤ, pos, if◌then◌else◌}
+-- (ISO/IEC 9075:1992, 4.1: comparable data types). The term NULL goes with both.
+use Rattle.std.specs.Prelude.{ℕ, ℤ, pos, Bool, true, false, ◌&&◌, ◌||◌, not, if◌then◌else◌, Option, Some, None, slice_get, option_and_then}
 use Rattle.std.specs.Ordering.{int_eq}
 use Rattle.lint_tables.specs.declared.op.Op.{Op}
 use Rattle.lint_tables.specs.declared.op.Op.TheVariants.{Eq, Ne, Lt, Le, Gt, Ge}

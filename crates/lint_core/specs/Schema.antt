@@ -33,7 +33,7 @@ are_keys table keys =
     nat_le (length keys) 1000
     && list_all (λ (k : Key). list_all (λ column. nat_lt column (length table.columns)) k.columns) keys
 
--- at most 1,000 CHECKs, which fit the table of the number
+-- at most 1,000 CHECKs, which fit the table that stands under the number
 abbrev pub are_checks : List Table → ℕ → List Cond → Bool
 are_checks schema number checks = nat_le (length checks) 1000 && list_all (check_fits schema number) checks
 
@@ -58,13 +58,13 @@ refers_to table foreign (Some target) =
     are_paired table target foreign.columns foreign.target_columns
     && list_any (are_columns_of foreign.target_columns) target.keys
 
--- at most 1,000 foreign keys, each to a table that exists
+-- at most 1,000 foreign keys, each to a table that is there and that it refers to rightly
 abbrev pub are_foreign_keys : List Table → Table → List ForeignKey → Bool
 are_foreign_keys schema table keys =
     nat_le (length keys) 1000
     && list_all (λ (k : ForeignKey). refers_to table k (slice_get schema k.target)) keys
 
--- the table of the number
+-- a table that stands in the schema under the number: its columns, keys, CHECKs and foreign keys are right
 abbrev pub is_table : List Table → ℕ → Table → Bool
 is_table schema number table =
     are_columns table.columns
@@ -72,11 +72,11 @@ is_table schema number table =
     && are_checks schema number table.checks
     && are_foreign_keys schema table table.foreign
 
--- each is a table of the schema, the first of them that of the number
+-- each is right under its number, the first under this one
 abbrev pub are_tables : List Table → ℕ → List Table → Bool
 are_tables schema number [] = true
 are_tables schema number (table ∷ tables) = is_table schema number table && are_tables schema (number + 1) tables
 
--- at most 200 tables
+-- at most 200 tables, numbered from 0
 abbrev pub is_schema : List Table → Bool
 is_schema tables = nat_le (length tables) 200 && are_tables tables 0 tables

@@ -1,10 +1,9 @@
 //! When a query, or a CHECK, fits a schema.
-ghost use Rattle.std.specs.Prelude.{◌≡◌, ◌≤◌, ◌-◌, List, ℕ, [], ◌∷◌, map, sum, sum_by, nat_lt, nat_le, Some, None, IfSome, IfNone, ◌<◌, ◌+◌, length, IfOk, IfErr, is_some, slice_get};
+ghost use Rattle.std.specs.Prelude.{◌≡◌, [], sum_by, nat_lt, nat_le, IfSome, IfNone, ◌<◌, ◌+◌, length, IfOk, IfErr, slice_get};
 ghost use Rattle.std.specs.List.{list_all};
-ghost use Rattle.lint_tables.specs.declared.op.Op.TheVariants.{Eq};
 ghost use Rattle.lint_core.specs.declared.condition.Block.{out-Block};
-ghost use Rattle.lint_core.specs.Kind.{is_equality, compares, compares_both};
-ghost use Rattle.lint_core.specs.Fits.{tables_of, table_at, is_plain, is_cell, cell_kind, term_kind, term_fits, cond_fits, block_meaning, block_fits, selected_fits, item_fits, order_fits, count_conditions, is_flat, check_fits, selection_fits_in, selection_fits, query_fits};
+ghost use Rattle.lint_core.specs.Kind.{compares_both};
+ghost use Rattle.lint_core.specs.Fits.{tables_of, table_at, is_plain, cell_kind, term_kind, cond_fits, block_meaning, block_fits, selected_fits, item_fits, order_fits, count_conditions, is_flat, check_fits, selection_fits_in, selection_fits, query_fits};
 ghost use Rattle.lint_core.specs.Levels.{tables_of_levels};
 
 use crate::condition::{Block, Cond, Entry, Term};

@@ -1,5 +1,5 @@
 //! Schemas: tables, their columns and the columns' domains.
-ghost use Rattle.std.specs.Prelude.{◌≡◌, true, false, IfSome, OnSome, IfNone, IsNone, ◌↔◌, ◌≤◌, length, nat_eq, nat_lt, slice_get, Some};
+ghost use Rattle.std.specs.Prelude.{◌≡◌, true, false, IfSome, IfNone, ◌≤◌, length, nat_eq, nat_lt, slice_get, Some};
 ghost use Rattle.std.specs.List.{list_all, list_any, zip};
 ghost use Rattle.lint_core.specs.Fits.{check_fits};
 ghost use Rattle.lint_core.specs.Kind.{kind_of, column_kind, are_of_one_kind, goes_with, compares, with_added};
@@ -34,7 +34,7 @@ pub enum Domain {
         greatest: i64,
         unit: Unit,
     },
-    /// Texts. The length is read and restricts nothing.
+    /// Texts. The length, 1 to 65,535, restricts nothing.
     Text {
         length: u32,
     },
