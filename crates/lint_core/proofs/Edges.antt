@@ -6,7 +6,7 @@ use Rattle.std.proofs.lemmas.Option.{option_and_then_some, same_Some}
 use Rattle.std.specs.Prelude.{Option, Some, None, slice_get, unwrap_or, option_and_then, nat_le, int_lt, ⊤}
 use Rattle.std.specs.List.{AllByRecursion}
 use Rattle.lint_core.specs.declared.schema.Domain.{Domain}
-use Rattle.lint_core.specs.declared.schema.Domain.TheVariants.{Number}
+use Rattle.lint_core.specs.declared.schema.Domain.TheVariants.{Number, Text}
 use Rattle.lint_core.specs.declared.schema.Column.{Column}
 use Rattle.lint_core.specs.declared.schema.Table.{Table}
 use Rattle.lint_core.specs.declared.formula.Side.{Side}
@@ -19,6 +19,7 @@ use Rattle.lint_core.specs.declared.certificate.SumEdge.TheVariants as edge
 use Rattle.lint_core.specs.declared.database.Database.{Database}
 use Rattle.lint_core.specs.declared.database.Value.{Value}
 use Rattle.lint_core.specs.declared.database.Value.TheVariants.{Null, Int}
+use Rattle.lint_core.specs.declared.database.Value.TheVariants as value
 use Rattle.lint_core.specs.Database.{Place, value_at}
 use Rattle.lint_core.specs.Domain.{int_le, is_in_domain}
 use Rattle.lint_core.specs.Formula.{number, differ_by_at_most, side_number, atom_holds}
@@ -46,6 +47,7 @@ implied false y h given = cc
 number_is : (v : Value) (n : ℤ) → number v ≡ Some n → v ≡ Int n
 number_is Null n h = cc
 number_is (Int m) n h = ap Int (same_Some m n h)
+number_is (value.Text text) n h = cc
 
 least_first : (least greatest n : ℤ) → (int_le least n && int_le n greatest) ≡ true → (pos 0 -ℤ n) ≤ℤ neg_ℤ least
 least_first least greatest n inside =
@@ -194,6 +196,7 @@ module _ (schema : List Table) (db : Database) (all_meet : meets schema db ≡ t
       let value : reading db places (side.Cell row column) ≡ known_cell.0 = ap (λ o. unwrap_or o (pos 0)) known_cell.1 in
       subst (Bounds (reading db places)) e
       (rw value (least_first least greatest known_cell.0 (cell_inside row column (Number least greatest unit) known_cell.0 domain known_cell.1)))
+  low_reads row column (Text length) b domain bound known = cc
 
   high_reads : (row column : ℕ) (d : Domain) (b : Bound) → domain_at schema branch row column ≡ Some d →
       high_bound row column d ≡ Some b → Known db places b.left → Bounds (reading db places) b
@@ -203,6 +206,7 @@ module _ (schema : List Table) (db : Database) (all_meet : meets schema db ≡ t
       let value : reading db places (side.Cell row column) ≡ known_cell.0 = ap (λ o. unwrap_or o (pos 0)) known_cell.1 in
       subst (Bounds (reading db places)) e
       (rw value (greatest_last least greatest known_cell.0 (cell_inside row column (Number least greatest unit) known_cell.0 domain known_cell.1)))
+  high_reads row column (Text length) b domain bound known = cc
 
   edge_reads : (e : SumEdge) (b : Bound) → bound_of schema branch e ≡ Some b → Reads db places e b
   edge_reads (edge.Fact fact) b bound =

@@ -1,32 +1,32 @@
--- The sentence of a question holds exactly where some points refute the question.
-use Rattle.std.proofs.Common.{◌≡◌, Bool, ◌∙◌, sym, ap, refl, subst, ℕ, true, false, ◌&&◌, List, [], ◌∷◌, ◌++◌, length, map, append_assoc}
+-- For queries of the first form the sentence of a question holds exactly where some points refute it.
+use Rattle.std.proofs.Common.{◌≡◌, Bool, ◌∙◌, sym, ap, refl, subst, ℕ, true, false, List, [], ◌∷◌, ◌++◌, length, map, append_assoc}
 use Rattle.std.proofs.lemmas.Bool.{and_parts, and_from}
-use Rattle.std.proofs.lemmas.List.{length-map, append-nil}
-use Rattle.std.specs.Prelude.{nat_le, nat_lt}
-use Rattle.std.specs.List.{list_all}
+use Rattle.std.proofs.lemmas.List.{append-nil}
+use Rattle.std.proofs.lemmas.List.Elements.{recursion_from_All}
+use Rattle.std.specs.Prelude.{nat_lt}
+use Rattle.std.specs.List.{AllByRecursion}
 use Rattle.lint_core.specs.declared.condition.Cond.{Cond}
+use Rattle.lint_core.specs.declared.condition.Entry.{Entry}
 use Rattle.lint_core.specs.declared.formula.Formula.{Formula}
 use Rattle.lint_core.specs.declared.formula.Formula.TheVariants.{Exists}
 use Rattle.lint_core.specs.declared.database.Database.{Database}
 use Rattle.lint_core.specs.declared.database.Points.{Points}
 use Rattle.lint_core.specs.declared.database.Points.TheVariants.{One}
-use Rattle.lint_core.specs.declared.query.Entry.{Entry}
 use Rattle.lint_core.specs.declared.query.Query.{Query}
 use Rattle.lint_core.specs.declared.query.Question.{Question}
 use Rattle.lint_core.specs.declared.query.Question.TheVariants.{Empty}
 use Rattle.lint_core.specs.declared.schema.Table.{Table}
-use Rattle.lint_core.specs.Condition.{truth}
+use Rattle.lint_core.specs.Condition.{is_true_at}
 use Rattle.lint_core.specs.Database.{Place, rows_of, below}
-use Rattle.lint_core.specs.Fits.{cond_fits, item_fits, query_fits}
+use Rattle.lint_core.specs.FirstForm.{Conjunct, IsFirstForm, is_one_range}
 use Rattle.lint_core.specs.Formula.{holds}
-use Rattle.lint_core.specs.Question.{query_tables, are_rows, is_binding, refutes}
+use Rattle.lint_core.specs.Question.{query_tables, are_rows, is_binding, where_is_true, refutes}
 use Rattle.lint_core.specs.Translation.{exist_rows, is_true_formula, counter_sentence}
-use Rattle.lint_core.specs.Truth.{is_true}
 use Rattle.lint_core.proofs.Lists.{any_map, some_below, any_below}
 use Rattle.lint_core.proofs.Holds.{holds_exists}
-use Rattle.lint_core.proofs.Truths.{agrees}
+use Rattle.lint_core.proofs.Truths.{one_variable, agrees}
 
-abbrev at_row : ℕ → ℕ → Place
+abbrev pub at_row : ℕ → ℕ → Place
 at_row table row = record { table = table; row = row }
 
 abbrev tables_at : List Place → List ℕ
@@ -106,81 +106,83 @@ one_level db tables (rows ∷ more ∷ levels) all = absurd (never (and_parts (a
     never : false ≡ true → ⊥
     never h = cc
 
-module _ (schema : List Table) (db : Database) (cond : Cond) where
+module _ (db : Database) (cond : Cond) where
   -- the sentence that some rows of the tables make the condition true; the tables are n
   abbrev sentence : List ℕ → ℕ → Formula
   sentence tables n = exist_rows tables (is_true_formula (below n ∷ []) cond)
 
-  abbrev is_true_at : List ℕ → List ℕ → Bool
-  is_true_at tables rows = is_true (truth db (tables ∷ []) cond (rows ∷ []))
+  abbrev is_true_rows : List ℕ → List ℕ → Bool
+  is_true_rows tables rows = is_true_at db cond (tables ∷ []) (rows ∷ [])
 
-  says_truth : (places : List Place) (tables rows : List ℕ) (n : ℕ) → tables_at places ≡ tables → rows_at places ≡ rows →
-      length tables ≡ n →
-      cond_fits schema (tables ∷ []) cond ≡ true → holds db (is_true_formula (below n ∷ []) cond) places ≡ is_true_at tables rows
-  says_truth places tables rows n table_is row_is count fits =
-      let count_is = sym (length-map places (λ (p : Place). p.table)) ∙ (ap length table_is ∙ count) in
-      let fits_here = subst (λ ts. cond_fits schema (ts ∷ []) cond ≡ true) (sym table_is) fits in
-      ap (λ n. holds db (is_true_formula (below n ∷ []) cond) places) (sym count_is)
-      ∙ (agrees schema db places cond fits_here
-      ∙ (ap (λ ts. is_true_at ts (rows_at places)) table_is ∙ ap (is_true_at tables) row_is))
+  -- at places of the tables the formula holds exactly where the condition is true
+  abbrev Agrees : List ℕ → ℕ → Type 0
+  Agrees tables n = (places : List Place) → tables_at places ≡ tables →
+      holds db (is_true_formula (below n ∷ []) cond) places ≡ is_true_rows tables (rows_at places)
 
-  rows_give : (tables rows : List ℕ) (n : ℕ) → length tables ≡ n → cond_fits schema (tables ∷ []) cond ≡ true →
-      are_rows db tables rows ≡ true → is_true_at tables rows ≡ true → holds db (sentence tables n) [] ≡ true
-  rows_give tables rows n count fits all stands =
+  rows_give : (tables rows : List ℕ) (n : ℕ) → Agrees tables n → are_rows db tables rows ≡ true → is_true_rows tables rows ≡ true →
+      holds db (sentence tables n) [] ≡ true
+  rows_give tables rows n agree all stands =
       let places = places_are db tables rows all in
       let rows_here = ap (λ ts. are_rows db ts (rows_at places.0)) places.1 ∙ (ap (are_rows db tables) places.2 ∙ all) in
-      let body_holds = says_truth places.0 tables rows n places.1 places.2 count fits ∙ stands in
+      let body_holds = agree places.0 places.1 ∙ (ap (is_true_rows tables) places.2 ∙ stands) in
       subst (λ ts. holds db (sentence ts n) [] ≡ true) places.1
       (places_give db (is_true_formula (below n ∷ []) cond) places.0 [] rows_here body_holds)
 
-  rows_found : (tables : List ℕ) (n : ℕ) → length tables ≡ n → cond_fits schema (tables ∷ []) cond ≡ true →
-      holds db (sentence tables n) [] ≡ true →
-      (rows : List ℕ) × (are_rows db tables rows ≡ true) × (is_true_at tables rows ≡ true)
-  rows_found tables n count fits stands =
+  rows_found : (tables : List ℕ) (n : ℕ) → Agrees tables n → holds db (sentence tables n) [] ≡ true →
+      (rows : List ℕ) × (are_rows db tables rows ≡ true) × (is_true_rows tables rows ≡ true)
+  rows_found tables n agree stands =
       let found = places_found db (is_true_formula (below n ∷ []) cond) tables [] stands in
-      let rows = rows_at found.0 in
-      (rows, found.2, sym (says_truth found.0 tables rows n found.1 refl count fits) ∙ found.3)
+      (rows_at found.0, found.2, sym (agree found.0 found.1) ∙ found.3)
 
 abbrev entry_tables : Query → List ℕ
 entry_tables query = map (λ (e : Entry). e.table) query.block.entries
 
-entry_count : (query : Query) → length (entry_tables query) ≡ length query.block.entries
-entry_count query = length-map query.block.entries (λ (e : Entry). e.table)
+-- places of the one table
+one_place : (places : List Place) → tables_at places ≡ 0 ∷ [] → (row : ℕ) × (places ≡ at_row 0 row ∷ [])
+one_place [] is = cc
+one_place (place ∷ []) is =
+    let table_is : place.table ≡ 0 = cc in
+    (place.row, ap (λ t. at_row t place.row ∷ []) table_is)
+one_place (place ∷ other ∷ places) is = cc
 
--- a query that fits has a condition that fits
-cond_of_query_fits : (schema : List Table) (query : Query) → query_fits schema query ≡ true →
-    cond_fits schema (query_tables query) query.block.cond ≡ true
-cond_of_query_fits schema query fits =
-    (and_parts
-    (nat_le (length query.block.entries) 16
-    && list_all (λ (e : Entry). nat_lt e.table (length schema)) query.block.entries
-    && nat_le (length query.items) 256
-    && list_all (item_fits schema (query_tables query)) query.items)
-    (cond_fits schema (query_tables query) query.block.cond)
-    fits).1
+module _ (schema : List Table) (query : Query) (table : Table) (conjuncts : List Conjunct) (form : IsFirstForm schema query table conjuncts) (db : Database) where
+  entries_are : entry_tables query ≡ 0 ∷ []
+  entries_are = ap (λ (es : List Entry). map (λ (e : Entry). e.table) es) form.one_entry.1 ∙ ap (λ t. t ∷ []) form.one_entry.2
 
-module _ (schema : List Table) (query : Query) (fits : query_fits schema query ≡ true) (db : Database) where
-  binding_gives : (levels : List (List ℕ)) → is_binding db (query_tables query) levels ≡ true →
-      is_true (truth db (query_tables query) query.block.cond levels) ≡ true → holds db (counter_sentence query Empty) [] ≡ true
-  binding_gives levels bound stands =
-      let tables = entry_tables query in
-      let level = one_level db tables levels bound in
-      let stands_here = subst (λ ls. is_true (truth db (tables ∷ []) query.block.cond ls) ≡ true) level.1 stands in
-      rows_give schema db query.block.cond tables level.0 (length query.block.entries) (entry_count query)
-      (cond_of_query_fits schema query fits) level.2 stands_here
+  count_is : length query.block.entries ≡ 1
+  count_is = ap length form.one_entry.1
+
+  ranges : AllByRecursion (λ (x : Conjunct). is_one_range x.op ≡ true) conjuncts
+  ranges = recursion_from_All (λ (x : Conjunct). is_one_range x.op ≡ true) conjuncts form.ranges
+
+  pub row_agrees : (row : ℕ) →
+      holds db (is_true_formula one_variable query.block.cond) (at_row 0 row ∷ []) ≡ where_is_true db query ((row ∷ []) ∷ [])
+  row_agrees row =
+      ap (λ cond. holds db (is_true_formula one_variable cond) (at_row 0 row ∷ [])) form.filter
+      ∙ (agrees db (at_row 0 row) conjuncts ranges
+      ∙ (ap (λ cond. is_true_at db cond ((0 ∷ []) ∷ []) ((row ∷ []) ∷ [])) (sym form.filter)
+      ∙ ap (λ ts. is_true_at db query.block.cond (ts ∷ []) ((row ∷ []) ∷ [])) (sym entries_are)))
+
+  places_agree : Agrees db query.block.cond (entry_tables query) (length query.block.entries)
+  places_agree places is =
+      let one = one_place places (is ∙ entries_are) in
+      ap (λ n. holds db (is_true_formula (below n ∷ []) query.block.cond) places) count_is
+      ∙ (ap (λ ps. holds db (is_true_formula one_variable query.block.cond) ps) one.1
+      ∙ (row_agrees one.0 ∙ ap (λ ps. where_is_true db query (rows_at ps ∷ [])) (sym one.1)))
 
   pub refuted_says : (question : Question) (points : Points) → refutes db query question points ≡ true →
       holds db (counter_sentence query question) [] ≡ true
   refuted_says Empty (One binding) refuted =
-      let both = and_parts (is_binding db (query_tables query) binding.levels) (is_true (truth db (query_tables query) query.block.cond binding.levels)) refuted in
-      binding_gives binding.levels both.0 both.1
+      let both = and_parts (is_binding db (query_tables query) binding.levels) (where_is_true db query binding.levels) refuted in
+      let level = one_level db (entry_tables query) binding.levels both.0 in
+      let stands_here = subst (λ ls. where_is_true db query ls ≡ true) level.1 both.1 in
+      rows_give db query.block.cond (entry_tables query) level.0 (length query.block.entries) places_agree level.2 stands_here
 
   pub says_refuted : (question : Question) → holds db (counter_sentence query question) [] ≡ true →
       (points : Points) × (refutes db query question points ≡ true)
   says_refuted Empty stands =
-      let tables = entry_tables query in
-      let found = rows_found schema db query.block.cond tables (length query.block.entries) (entry_count query) (cond_of_query_fits schema query fits) stands in
-      let rows_bind = and_from (are_rows db tables found.0) true found.1 refl in (
+      let found = rows_found db query.block.cond (entry_tables query) (length query.block.entries) places_agree stands in
+      let rows_bind = and_from (are_rows db (entry_tables query) found.0) true found.1 refl in (
         One (record { levels = found.0 ∷ [] }),
-        and_from (is_binding db (query_tables query) (found.0 ∷ [])) (is_true (truth db (query_tables query) query.block.cond (found.0 ∷ []))) rows_bind found.2,
+        and_from (is_binding db (query_tables query) (found.0 ∷ [])) (where_is_true db query (found.0 ∷ [])) rows_bind found.2,
       )

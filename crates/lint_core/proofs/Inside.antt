@@ -11,7 +11,7 @@ use Rattle.lint_core.specs.declared.schema.Column.{Column}
 use Rattle.lint_core.specs.declared.schema.Table.{Table}
 use Rattle.lint_core.specs.Database.{Place, value_at, rows_of}
 use Rattle.lint_core.specs.Domain.{is_in_domain}
-use Rattle.lint_core.specs.Meets.{values_meet, rows_meet, tables_meet, meets}
+use Rattle.lint_core.specs.Meets.{values_meet, rows_meet, tables_meet, all_constraints_met, meets}
 
 -- what all elements pass, each does
 passes_at : {A : Type 0} (p : A → Bool) (xs : List A) (i : ℕ) (x : A) → list_all p xs ≡ true → slice_get xs i ≡ Some x → p x ≡ true
@@ -42,8 +42,9 @@ pub inside : (schema : List Table) (db : Database) → meets schema db ≡ true 
     (place : Place) (column : ℕ) (v : Value) (t : Table) (c : Column) → value_at db place column ≡ Some v →
     slice_get schema place.table ≡ Some t → slice_get t.columns column ≡ Some c → is_in_domain c.domain v ≡ true
 inside schema db all place column v t c value table at =
+    let domains = (and_parts (tables_meet schema db.tables) (all_constraints_met db 0 schema) all).0 in
     option_and_then_some (λ (row : Row). slice_get row.values column) (slice_get (rows_of db place.table) place.row) v value
     (λ row here stands.
     value_inside t.columns row.values column c v
-    (passes_at (λ (row : Row). values_meet t.columns row.values) (rows_of db place.table) place.row row (table_rows_meet schema db.tables place.table t all table) here)
+    (passes_at (λ (row : Row). values_meet t.columns row.values) (rows_of db place.table) place.row row (table_rows_meet schema db.tables place.table t domains table) here)
     at stands)

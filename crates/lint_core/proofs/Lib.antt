@@ -4,8 +4,13 @@ mod Inside
 mod Named
 mod Holds
 mod Realized
+pub mod Conditions
 mod Edges
 mod Steps
 mod Comparisons
 mod Truths
 mod Failures
+mod Levels
+mod Fitting
+mod FirstForms
+mod Examples

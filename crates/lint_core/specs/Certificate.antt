@@ -5,7 +5,7 @@
 -- and no step is left.
 use Rattle.std.specs.Prelude.{ℕ, ℤ, pos, neg_ℤ, ◌+ℤ◌, Bool, true, false, ◌&&◌, ◌||◌, not, nat_le, nat_eq, int_lt, List, [], ◌∷◌, ◌++◌, length, map, Option, Some, None, slice_get, option_and_then, if◌then◌else◌}
 use Rattle.lint_core.specs.declared.schema.Domain.{Domain}
-use Rattle.lint_core.specs.declared.schema.Domain.TheVariants.{Number}
+use Rattle.lint_core.specs.declared.schema.Domain.TheVariants.{Number, Text}
 use Rattle.lint_core.specs.declared.schema.Column.{Column}
 use Rattle.lint_core.specs.declared.schema.Table.{Table}
 use Rattle.lint_core.specs.declared.formula.Side.{Side}
@@ -67,11 +67,14 @@ abbrev pub domain_at : List Table → Branch → ℕ → ℕ → Option Domain
 domain_at schema branch row column =
     option_and_then (λ t. option_and_then (λ (table : Table). option_and_then (λ (c : Column). Some c.domain) (slice_get table.columns column)) (slice_get schema t)) (slice_get branch.tables row)
 
+-- a number column's values have a least and a greatest; texts have neither
 abbrev pub low_bound : ℕ → ℕ → Domain → Option Bound
 low_bound row column (Number least greatest unit) = Some (record { left = side.Zero; right = side.Cell row column; most = neg_ℤ least })
+low_bound row column (Text length) = None
 
 abbrev pub high_bound : ℕ → ℕ → Domain → Option Bound
 high_bound row column (Number least greatest unit) = Some (record { left = side.Cell row column; right = side.Zero; most = greatest })
+high_bound row column (Text length) = None
 
 abbrev pub bound_of : List Table → Branch → SumEdge → Option Bound
 bound_of schema branch (edge.Fact fact) = option_and_then (λ (x : Fact). bound_of_fact x.rows (out-Formula x.formula)) (slice_get branch.facts fact)

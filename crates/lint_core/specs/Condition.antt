@@ -1,44 +1,127 @@
--- The truth of a condition at a binding (ISO/IEC 9075:1992, 8.12). A binding has one row place for each
--- FROM entry of each level; the entries' tables say of which table.
-use Rattle.std.specs.Prelude.{ℕ, List, map, Option, Some, slice_get, unwrap_or, option_and_then}
+-- The truth of a condition at a binding (ISO/IEC 9075:1992, 8.12; for subqueries 7.6, 7.11, 8.4 and 8.8).
+-- A binding has one row place for each FROM entry of each level, the outermost first; the entries' tables,
+-- as many and in the same order, say of which table. A condition has no truth where a scalar subquery that
+-- it contains gives two rows: at the binding itself, or at some inner binding of a subquery in which it
+-- stands, also where another part alone would decide.
+use Rattle.std.specs.Prelude.{ℕ, Bool, List, [], ◌∷◌, ◌++◌, map, Option, Some, None, slice_get, unwrap_or, option_and_then, false, if◌then◌else◌}
+use Rattle.std.specs.Option.{option_map, option_map_or}
+use Rattle.lint_tables.specs.declared.op.Op.TheVariants.{Eq}
+use Rattle.lint_core.specs.declared.condition.Entry.{Entry}
 use Rattle.lint_core.specs.declared.condition.Term.{Term}
 use Rattle.lint_core.specs.declared.condition.Term.TheVariants as term
 use Rattle.lint_core.specs.declared.condition.Cond.{Cond, fold-Cond}
-use Rattle.lint_core.specs.declared.condition.Cond.TheOpen.{Cond-F}
+use Rattle.lint_core.specs.declared.condition.Cond.TheOpen.{Cond-F, Block-F}
 use Rattle.lint_core.specs.declared.database.Value.{Value}
-use Rattle.lint_core.specs.declared.database.Value.TheVariants.{Null, Int}
+use Rattle.lint_core.specs.declared.database.Value.TheVariants as value
 use Rattle.lint_core.specs.declared.database.Truth.{Truth}
+use Rattle.lint_core.specs.declared.database.Truth.TheVariants.{False, True}
 use Rattle.lint_core.specs.declared.database.Database.{Database}
-use Rattle.lint_core.specs.Database.{Place, value_at}
-use Rattle.lint_core.specs.Truth.{and_of}
-use Rattle.lint_core.specs.Comparison.{compare, plus}
+use Rattle.lint_core.specs.Database.{Place, value_at, row_lists}
+use Rattle.lint_core.specs.Truth.{truth_of, not_of, negated_if, and_of, or_of, is_true, is_false}
+use Rattle.lint_core.specs.Comparison.{compare, plus, is_null}
 
 -- what stands at a level and an entry
 abbrev pub at_entry : List (List ℕ) → ℕ → ℕ → Option ℕ
 at_entry levels level entry = option_and_then (λ entries. slice_get entries entry) (slice_get levels level)
 
-module _ (db : Database) (tables : List (List ℕ)) where
+-- all of them, where each is there
+abbrev pub all_present : {A : Type 0} → List (Option A) → Option (List A)
+all_present [] = Some []
+all_present (x ∷ xs) = option_and_then (λ here. option_map (λ later. here ∷ later) (all_present xs)) x
+
+-- an inner binding of a block with the tables of its entries, and the truth of the block's condition there
+pub record Inner : Type 0 where
+  pub tables : List (List ℕ)
+  pub binding : List (List ℕ)
+  pub truth : Option Truth
+
+-- the inner bindings at which the block's condition is true, where it has a truth at each
+abbrev pub selected : List Inner → Option (List Inner)
+selected [] = Some []
+selected (inner ∷ others) =
+    option_and_then (λ truth. option_map (λ later. if is_true truth then inner ∷ later else later) (selected others)) inner.truth
+
+-- EXISTS: true where some row is selected, else false
+abbrev pub exists_truth : List Inner → Truth
+exists_truth [] = False
+exists_truth (inner ∷ others) = True
+
+-- IN: true where some comparison is true, else unknown where some is unknown, else false
+abbrev pub in_truth : Value → List Value → Truth
+in_truth left items = or_of (map (λ item. compare Eq left item) items)
+
+-- the one value that a scalar subquery gives: NULL for no row, and none for two rows
+abbrev pub scalar_value : List Value → Option Value
+scalar_value [] = Some value.Null
+scalar_value (item ∷ []) = Some item
+scalar_value (item ∷ other ∷ items) = None
+
+-- the meanings of a condition and of a block, by the tables and the binding of the levels outside
+abbrev pub Meaning : Type 0
+Meaning = List (List ℕ) → List (List ℕ) → Option Truth
+
+abbrev pub BlockMeaning : Type 0
+BlockMeaning = List (List ℕ) → List (List ℕ) → List Inner
+
+module _ (db : Database) where
   -- the row of an entry
-  abbrev pub place_of : List (List ℕ) → ℕ → ℕ → Option Place
-  place_of binding level entry =
+  abbrev pub place_of : List (List ℕ) → List (List ℕ) → ℕ → ℕ → Option Place
+  place_of tables binding level entry =
       option_and_then (λ table. option_and_then (λ row. Some (record { table = table; row = row })) (at_entry binding level entry)) (at_entry tables level entry)
 
   -- the value of a cell's column in its row (NULL where there is no such cell, which no bound query has)
-  abbrev pub cell_value : List (List ℕ) → ℕ → ℕ → ℕ → Value
-  cell_value binding level entry column =
-      unwrap_or (option_and_then (λ place. value_at db place column) (place_of binding level entry)) Null
+  abbrev pub cell_value : List (List ℕ) → List (List ℕ) → ℕ → ℕ → ℕ → Value
+  cell_value tables binding level entry column =
+      unwrap_or (option_and_then (λ place. value_at db place column) (place_of tables binding level entry)) value.Null
 
-  abbrev pub term_value : List (List ℕ) → Term → Value
-  term_value binding (term.Cell level entry column added) = plus (cell_value binding level entry column) added
-  term_value binding (term.Number value unit) = Int value
+  abbrev pub term_value : List (List ℕ) → List (List ℕ) → Term → Value
+  term_value tables binding (term.Cell level entry column added) = plus (cell_value tables binding level entry column) added
+  term_value tables binding (term.Number n unit) = value.Int n
+  term_value tables binding (term.Text text) = value.Text text
+  term_value tables binding term.Null = value.Null
 
-  abbrev pub Meaning : Type 0
-  Meaning = List (List ℕ) → Truth
+  -- what the block selects at the inner bindings
+  abbrev pub items_at : Term → List Inner → List Value
+  items_at item inners = map (λ (inner : Inner). term_value inner.tables inner.binding item) inners
+
+  -- one more level, with each list of rows of the block's tables
+  abbrev pub inner_bindings : List ℕ → Meaning → BlockMeaning
+  inner_bindings entries cond tables binding =
+      map (λ rows. record {
+        tables = tables ++ entries ∷ [];
+        binding = binding ++ rows ∷ [];
+        truth = cond (tables ++ entries ∷ []) (binding ++ rows ∷ []);
+      })
+      (row_lists db entries)
 
   -- one layer of a condition, from the meanings of its parts
-  abbrev pub cond_step : Cond-F Meaning → Meaning
-  cond_step (Cond-F.And parts) binding = and_of (map (λ part. part binding) parts)
-  cond_step (Cond-F.Compare op left right span) binding = compare op (term_value binding left) (term_value binding right)
+  abbrev pub cond_step : Cond-F Meaning BlockMeaning → Meaning
+  cond_step Cond-F.True tables binding = Some True
+  cond_step Cond-F.False tables binding = Some False
+  cond_step (Cond-F.And parts) tables binding = option_map and_of (all_present (map (λ part. part tables binding) parts))
+  cond_step (Cond-F.Or parts) tables binding = option_map or_of (all_present (map (λ part. part tables binding) parts))
+  cond_step (Cond-F.Not part) tables binding = option_map not_of (part tables binding)
+  cond_step (Cond-F.Compare op left right span) tables binding =
+      Some (compare op (term_value tables binding left) (term_value tables binding right))
+  cond_step (Cond-F.IsNull term negated span) tables binding =
+      Some (negated_if negated (truth_of (is_null (term_value tables binding term))))
+  cond_step (Cond-F.Exists block span) tables binding = option_map exists_truth (selected (block tables binding))
+  cond_step (Cond-F.In term block item negated span) tables binding =
+      option_map (λ inners. negated_if negated (in_truth (term_value tables binding term) (items_at item inners)))
+      (selected (block tables binding))
+  cond_step (Cond-F.Scalar op left block item span) tables binding =
+      option_and_then (λ inners. option_map (compare op (term_value tables binding left)) (scalar_value (items_at item inners)))
+      (selected (block tables binding))
+
+  abbrev pub block_step : Block-F Meaning BlockMeaning → BlockMeaning
+  block_step block = inner_bindings (map (λ (e : Entry). e.table) block.entries) block.cond
 
   abbrev pub truth : Cond → Meaning
-  truth = fold-Cond Meaning cond_step
+  truth = fold-Cond Meaning BlockMeaning cond_step block_step
+
+  -- the condition has a truth at the binding, which is true; or which is false
+  abbrev pub is_true_at : Cond → List (List ℕ) → List (List ℕ) → Bool
+  is_true_at cond tables binding = option_map_or is_true (truth cond tables binding) false
+
+  abbrev pub is_false_at : Cond → List (List ℕ) → List (List ℕ) → Bool
+  is_false_at cond tables binding = option_map_or is_false (truth cond tables binding) false

@@ -1,6 +1,7 @@
 -- What stands where in a database. A row is named by its table and its place there, from 0, so equal
 -- rows may stand twice (a table is a multiset of rows: ISO/IEC 9075:1992, 4.9).
 use Rattle.std.specs.Prelude.{ℕ, zero, suc, List, [], ◌∷◌, ◌++◌, length, map, Option, slice_get, unwrap_or, option_and_then}
+use Rattle.std.specs.List.{flat_map}
 use Rattle.lint_core.specs.declared.database.Value.{Value}
 use Rattle.lint_core.specs.declared.database.Row.{Row}
 use Rattle.lint_core.specs.declared.database.Database.{Database}
@@ -26,3 +27,8 @@ below (suc n) = below n ++ n ∷ []
 -- the places of all rows of a table
 abbrev pub places_of : Database → ℕ → List Place
 places_of db table = map (λ row. record { table = table; row = row }) (below (length (rows_of db table)))
+
+-- all lists of one row for each of the tables, in order: those with the first row of the first table first
+abbrev pub row_lists : Database → List ℕ → List (List ℕ)
+row_lists db [] = [] ∷ []
+row_lists db (table ∷ tables) = flat_map (λ row. map (λ rows. row ∷ rows) (row_lists db tables)) (below (length (rows_of db table)))

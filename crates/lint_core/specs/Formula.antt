@@ -9,7 +9,7 @@ use Rattle.lint_core.specs.declared.formula.Atom.TheVariants as atom
 use Rattle.lint_core.specs.declared.formula.Formula.{Formula, fold-Formula}
 use Rattle.lint_core.specs.declared.formula.Formula.TheOpen.{Formula-F}
 use Rattle.lint_core.specs.declared.database.Value.{Value}
-use Rattle.lint_core.specs.declared.database.Value.TheVariants.{Null, Int}
+use Rattle.lint_core.specs.declared.database.Value.TheVariants.{Null, Int, Text}
 use Rattle.lint_core.specs.declared.database.Database.{Database}
 use Rattle.lint_core.specs.Database.{Place, value_at, places_of}
 use Rattle.lint_core.specs.Domain.{int_le}
@@ -18,6 +18,7 @@ use Rattle.lint_core.specs.Domain.{int_le}
 abbrev pub number : Value → Option ℤ
 number Null = None
 number (Int n) = Some n
+number (Text text) = None
 
 -- the difference is at most the bound; not so where a side is no number
 abbrev pub differ_by_at_most : Option ℤ → Option ℤ → ℤ → Bool

@@ -1,4 +1,7 @@
 pub mod Schema
+pub mod Kind
+pub mod Levels
+pub mod Fits
 pub mod Domain
 pub mod Database
 pub mod Meets
@@ -6,9 +9,9 @@ pub mod Truth
 pub mod Comparison
 pub mod Condition
 pub mod Question
+pub mod FirstForm
 pub mod Formula
 pub mod Translation
 pub mod Certificate
 pub mod Answer
-pub mod Fits
-pub mod FirstForm
+pub mod Examples

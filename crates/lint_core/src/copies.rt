@@ -1,19 +1,66 @@
-//! Copies of conditions and queries.
+//! Copies of values, conditions and queries. A copy is equal to its source; `NoMemory` comes where
+//! memory for it runs out, and leaves the source as it is.
 ghost use Rattle.std.specs.Prelude.{◌≡◌, IfOk};
 
-use crate::condition::Cond;
-use crate::query::{Block, Entry, Item, Query};
+use crate::condition::{Block, Cond, Entry, Term};
+use crate::database::Value;
+use crate::query::{Item, Query};
 use lint_base::{Items, NoMemory};
+use sqlite_items::Boxed;
 use std::alloc::Global;
 
-impl Cond {
-    /// The same condition.
-    #[cycle(copy)]
-    pub fn copy(&self, alloc: Global) -> Result<Cond, NoMemory>
-        ensures { IfOk result (λ cond. cond ≡ self.now) }
+impl Value {
+    /// The same value. `NoMemory` where there is no memory for its text.
+    pub fn copy(&self, alloc: Global) -> Result<Value, NoMemory>
+        ensures { IfOk result (λ copy. copy ≡ self.now) }
     {
         match self {
+            Value::Null => Ok(Value::Null),
+            Value::Int(number) => Ok(Value::Int(*number)),
+            Value::Text(text) => Ok(Value::Text(text.copy(alloc)?)),
+        }
+    }
+}
+
+impl Term {
+    /// The same term. `NoMemory` where there is no memory for its text.
+    pub fn copy(&self, alloc: Global) -> Result<Term, NoMemory>
+        ensures { IfOk result (λ copy. copy ≡ self.now) }
+    {
+        match self {
+            Term::Cell {
+                level,
+                entry,
+                column,
+                plus,
+            } => Ok(Term::Cell {
+                level: *level,
+                entry: *entry,
+                column: *column,
+                plus: *plus,
+            }),
+            Term::Number { value, unit } => Ok(Term::Number {
+                value: *value,
+                unit: *unit,
+            }),
+            Term::Text(text) => Ok(Term::Text(text.copy(alloc)?)),
+            Term::Null => Ok(Term::Null),
+        }
+    }
+}
+
+impl Cond {
+    /// The same condition, with its subqueries. `NoMemory` where there is no memory for all of it.
+    #[cycle(copy)]
+    pub fn copy(&self, alloc: Global) -> Result<Cond, NoMemory>
+        ensures { IfOk result (λ copy. copy ≡ self.now) }
+    {
+        match self {
+            Cond::True => Ok(Cond::True),
+            Cond::False => Ok(Cond::False),
             Cond::And(parts) => Ok(Cond::And(copy_parts(alloc, parts.as_slice())?)),
+            Cond::Or(parts) => Ok(Cond::Or(copy_parts(alloc, parts.as_slice())?)),
+            Cond::Not(part) => Ok(Cond::Not(Boxed::new(alloc, part.get().copy(alloc)?)?)),
             Cond::Compare {
                 op,
                 left,
@@ -21,8 +68,47 @@ impl Cond {
                 span,
             } => Ok(Cond::Compare {
                 op: *op,
-                left: *left,
-                right: *right,
+                left: left.copy(alloc)?,
+                right: right.copy(alloc)?,
+                span: *span,
+            }),
+            Cond::IsNull {
+                term,
+                negated,
+                span,
+            } => Ok(Cond::IsNull {
+                term: term.copy(alloc)?,
+                negated: *negated,
+                span: *span,
+            }),
+            Cond::Exists { block, span } => Ok(Cond::Exists {
+                block: Boxed::new(alloc, block.get().copy(alloc)?)?,
+                span: *span,
+            }),
+            Cond::In {
+                term,
+                block,
+                item,
+                negated,
+                span,
+            } => Ok(Cond::In {
+                term: term.copy(alloc)?,
+                block: Boxed::new(alloc, block.get().copy(alloc)?)?,
+                item: item.copy(alloc)?,
+                negated: *negated,
+                span: *span,
+            }),
+            Cond::Scalar {
+                op,
+                left,
+                block,
+                item,
+                span,
+            } => Ok(Cond::Scalar {
+                op: *op,
+                left: left.copy(alloc)?,
+                block: Boxed::new(alloc, block.get().copy(alloc)?)?,
+                item: item.copy(alloc)?,
                 span: *span,
             }),
         }
@@ -40,15 +126,22 @@ fn copy_parts(alloc: Global, parts: &[Cond]) -> Result<Items<Cond>, NoMemory>
     Ok(copies)
 }
 
-fn copy_items(alloc: Global, items: &[Item]) -> Result<Items<Item>, NoMemory>
-    ensures { IfOk result (λ copies. copies ≡ items.now) }
-{
-    Ok(Items::from_vec(Vec::from_slice(alloc, items)?))
+impl Block {
+    #[cycle(copy)]
+    fn copy(&self, alloc: Global) -> Result<Block, NoMemory>
+        ensures { IfOk result (λ copy. copy ≡ self.now) }
+    {
+        Ok(Block {
+            entries: copy_entries(alloc, self.entries.as_slice())?,
+            cond: self.cond.copy(alloc)?,
+            span: self.span,
+        })
+    }
 }
 
 impl Entry {
     fn copy(&self, alloc: Global) -> Result<Entry, NoMemory>
-        ensures { IfOk result (λ entry. entry ≡ self.now) }
+        ensures { IfOk result (λ copy. copy ≡ self.now) }
     {
         Ok(Entry {
             table: self.table,
@@ -68,18 +161,48 @@ fn copy_entries(alloc: Global, entries: &[Entry]) -> Result<Items<Entry>, NoMemo
     Ok(copies)
 }
 
+impl Item {
+    fn copy(&self, alloc: Global) -> Result<Item, NoMemory>
+        ensures { IfOk result (λ copy. copy ≡ self.now) }
+    {
+        Ok(Item {
+            term: self.term.copy(alloc)?,
+            star: self.star,
+            span: self.span,
+        })
+    }
+}
+
+fn copy_items(alloc: Global, items: &[Item]) -> Result<Items<Item>, NoMemory>
+    ensures { IfOk result (λ copies. copies ≡ items.now) }
+{
+    let mut copies = Items::new(alloc);
+    for item in items {
+        copies.push(item.copy(alloc)?)?;
+    }
+    Ok(copies)
+}
+
+fn copy_terms(alloc: Global, terms: &[Term]) -> Result<Items<Term>, NoMemory>
+    ensures { IfOk result (λ copies. copies ≡ terms.now) }
+{
+    let mut copies = Items::new(alloc);
+    for term in terms {
+        copies.push(term.copy(alloc)?)?;
+    }
+    Ok(copies)
+}
+
 impl Query {
-    /// The same query.
+    /// The same query. `NoMemory` where there is no memory for all of it.
     pub fn copy(&self, alloc: Global) -> Result<Query, NoMemory>
-        ensures { IfOk result (λ query. query ≡ self.now) }
+        ensures { IfOk result (λ copy. copy ≡ self.now) }
     {
         Ok(Query {
+            distinct: self.distinct,
             items: copy_items(alloc, self.items.as_slice())?,
-            block: Block {
-                entries: copy_entries(alloc, self.block.entries.as_slice())?,
-                cond: self.block.cond.copy(alloc)?,
-                span: self.block.span,
-            },
+            block: self.block.copy(alloc)?,
+            order: copy_terms(alloc, self.order.as_slice())?,
         })
     }
 }

@@ -1,11 +1,12 @@
 //! Databases, and places in them.
-use lint_base::Items;
+use lint_base::{Items, Str};
 
-/// A value: NULL or a whole number.
-#[derive(Clone, Copy, Debug, PartialEq, Eq)]
+/// A value: NULL, a whole number or a text.
+#[derive(Debug, Drop)]
 pub enum Value {
     Null,
     Int(i64),
+    Text(Str),
 }
 
 /// The three truth values.

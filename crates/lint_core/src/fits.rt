@@ -1,96 +1,161 @@
-//! When a query fits a schema.
-ghost use Rattle.std.specs.Prelude.{◌≡◌, ◌≤◌, List, ℕ, [], ◌∷◌, map, nat_lt};
+//! When a query, or a CHECK, fits a schema.
+ghost use Rattle.std.specs.Prelude.{◌≡◌, [], sum_by, nat_lt, nat_le, IfSome, IfNone, ◌<◌, ◌+◌, length, IfOk, IfErr, slice_get};
 ghost use Rattle.std.specs.List.{list_all};
-ghost use Rattle.lint_core.specs.Condition.{at_entry};
-ghost use Rattle.lint_core.specs.Fits.{has_column, term_fits, cond_fits, is_plain, item_fits, query_fits};
-ghost use Rattle.lint_core.specs.Question.{query_tables};
+ghost use Rattle.lint_core.specs.declared.condition.Block.{out-Block};
+ghost use Rattle.lint_core.specs.Kind.{compares_both};
+ghost use Rattle.lint_core.specs.Fits.{tables_of, table_at, is_plain, cell_kind, term_kind, cond_fits, block_meaning, block_fits, selected_fits, item_fits, order_fits, count_conditions, is_flat, check_fits, selection_fits_in, selection_fits, query_fits};
+ghost use Rattle.lint_core.specs.Levels.{tables_of_levels};
 
-use crate::condition::{Cond, Term};
-use crate::query::{Entry, Item, Query};
-use crate::schema::{Schema, Table};
+use crate::condition::{Block, Cond, Entry, Term};
+use crate::query::{Item, Query};
+use crate::schema::{Kind, Schema, Table};
+use lint_tables::Op;
 
-fn entry_at(entries: &[Entry], level: u32, entry: u32) -> Option<u32>
-    ensures { result ≡ at_entry (map (λ e. e.table) entries.now ∷ []) level entry }
+/// The levels that a condition stands in, from the inside.
+#[derive(Drop)]
+enum Levels<'a> {
+    /// No level.
+    Outside,
+    /// The row of this table that a CHECK speaks of.
+    Row(u32),
+    /// A FROM list, inside other levels.
+    Inside {
+        entries: &'a [Entry],
+        outer: &'a Levels<'a>,
+    },
+}
+
+fn table_of(entries: &[Entry], entry: u32) -> Option<u32>
+    ensures { result ≡ slice_get (tables_of entries.now) entry }
 {
-    if level != 0 {
-        return None;
-    }
     match entries.get(entry as usize) {
         Some(found) => Some(found.table),
         None => None,
     }
 }
 
-fn column_exists(tables: &[Table], table: Option<u32>, column: u32) -> bool
-    ensures { result ≡ has_column tables.now [] table column }
-{
-    let Some(table) = table else {
-        return false;
-    };
-    match tables.get(table as usize) {
-        Some(found) => (column as usize) < found.columns.as_slice().len(),
-        None => false,
+impl Levels<'_> {
+    /// The table of an entry of a level, if that level has it; where there is no such level, how many
+    /// levels further in it would be.
+    fn look_up(&self, level: u32, entry: u32) -> Result<Option<u32>, u32>
+        ensures there { IfOk result (λ found. (level < length (tables_of_levels self.now)) × (found ≡ table_at (tables_of_levels self.now) level entry)) }
+        ensures further { IfErr result (λ more. more + length (tables_of_levels self.now) ≡ level) }
+    {
+        match self {
+            Levels::Outside => Err(level),
+            Levels::Row(table) => match level {
+                0 => Ok((entry == 0).then_some(*table)),
+                _ => Err(level - 1),
+            },
+            Levels::Inside { entries, outer } => match outer.look_up(level, entry) {
+                Ok(found) => Ok(found),
+                Err(0) => Ok(table_of(entries, entry)),
+                Err(further) => Err(further - 1),
+            },
+        }
+    }
+
+    /// The table of an entry of a level.
+    fn table_at(&self, level: u32, entry: u32) -> Option<u32>
+        ensures { result ≡ table_at (tables_of_levels self.now) level entry }
+    {
+        match self.look_up(level, entry) {
+            Ok(found) => found,
+            Err(_) => None,
+        }
     }
 }
 
+fn both_compare(op: Op, left: Option<Kind>, right: Option<Kind>) -> bool
+    ensures { result ≡ compares_both op left right }
+{
+    match (left, right) {
+        (Some(left), Some(right)) => left.compares(op, right),
+        _ => false,
+    }
+}
+
+fn cell_kind(tables: &[Table], table: Option<u32>, column: u32, plus: i64) -> Option<Kind>
+    ensures { result ≡ cell_kind tables.now table column plus }
+{
+    tables
+        .get(table? as usize)?
+        .column_kind(column)?
+        .with_added(plus)
+}
+
 impl Term {
-    fn fits(&self, tables: &[Table], entries: &[Entry]) -> bool
-        ensures { result ≡ term_fits tables.now (map (λ e. e.table) entries.now ∷ []) self.now }
+    /// What the term is, if it names an existing column and adds nothing to a text.
+    fn kind(&self, tables: &[Table], levels: &Levels) -> Option<Kind>
+        ensures { result ≡ term_kind tables.now (tables_of_levels levels.now) self.now }
     {
-        match *self {
+        match self {
             Term::Cell {
                 level,
                 entry,
                 column,
-                plus: _,
-            } => column_exists(tables, entry_at(entries, level, entry), column),
-            Term::Number { .. } => true,
+                plus,
+            } => cell_kind(tables, levels.table_at(*level, *entry), *column, *plus),
+            Term::Number { unit, .. } => Some(Kind::Number(*unit)),
+            Term::Text(_) => Some(Kind::Text),
+            Term::Null => Some(Kind::Null),
+        }
+    }
+
+    fn is_plain(&self) -> bool
+        ensures { result ≡ is_plain self.now }
+    {
+        match self {
+            Term::Cell { plus, .. } => *plus == 0,
+            _ => true,
         }
     }
 }
 
 impl Cond {
     #[cycle(fits)]
-    fn fits(&self, tables: &[Table], entries: &[Entry]) -> bool
-        ensures { result ≡ cond_fits tables.now (map (λ e. e.table) entries.now ∷ []) self.now }
+    fn fits(&self, tables: &[Table], levels: &Levels) -> bool
+        ensures { result ≡ cond_fits tables.now (tables_of_levels levels.now) self.now }
     {
         match self {
-            Cond::And(parts) => all_fit(parts.as_slice(), tables, entries),
-            Cond::Compare { left, right, .. } => {
-                left.fits(tables, entries) && right.fits(tables, entries)
-            }
+            Cond::True | Cond::False => true,
+            Cond::And(parts) | Cond::Or(parts) => all_fit(parts.as_slice(), tables, levels),
+            Cond::Not(part) => part.get().fits(tables, levels),
+            Cond::Compare {
+                op,
+                left,
+                right,
+                ..
+            } => both_compare(*op, left.kind(tables, levels), right.kind(tables, levels)),
+            Cond::IsNull { term, .. } => term.kind(tables, levels).is_some(),
+            Cond::Exists { block, .. } => block.get().fits(tables, levels),
+            Cond::In {
+                term,
+                block,
+                item,
+                ..
+            } => block.get().selects(tables, levels, Op::Eq, term, item),
+            Cond::Scalar {
+                op,
+                left,
+                block,
+                item,
+                ..
+            } => block.get().selects(tables, levels, *op, left, item),
         }
     }
 }
 
 #[cycle(fits)]
-fn all_fit(conds: &[Cond], tables: &[Table], entries: &[Entry]) -> bool
-    ensures { result ≡ list_all (λ fits. fits) (map (cond_fits tables.now (map (λ e. e.table) entries.now ∷ [])) conds.now) }
+fn all_fit(conds: &[Cond], tables: &[Table], levels: &Levels) -> bool
+    ensures { result ≡ list_all (cond_fits tables.now (tables_of_levels levels.now)) conds.now }
 {
     for cond in conds {
-        if !cond.fits(tables, entries) {
+        if !cond.fits(tables, levels) {
             return false;
         }
     }
     true
-}
-
-impl Item {
-    fn fits(&self, tables: &[Table], entries: &[Entry]) -> bool
-        ensures { result ≡ item_fits tables.now (map (λ e. e.table) entries.now ∷ []) self.now }
-    {
-        let plain = match self.term {
-            Term::Cell { plus, .. } => plus == 0,
-            Term::Number { .. } => true,
-        };
-        self.term.fits(tables, entries) && plain
-    }
-}
-
-fn items_fit(items: &[Item], tables: &[Table], entries: &[Entry]) -> bool
-    ensures { result ≡ list_all (item_fits tables.now (map (λ e. e.table) entries.now ∷ [])) items.now }
-{
-    items.iter().all(|i| i.fits(tables, entries))
 }
 
 fn entries_fit(entries: &[Entry], count: usize) -> bool
@@ -99,118 +164,590 @@ fn entries_fit(entries: &[Entry], count: usize) -> bool
     entries.iter().all(|e| (e.table as usize) < count)
 }
 
+impl Block {
+    #[cycle(fits)]
+    fn fits(&self, tables: &[Table], outer: &Levels) -> bool
+        ensures { result ≡ block_fits tables.now (tables_of_levels outer.now) self.now }
+    {
+        let entries = self.entries.as_slice();
+        let levels = Levels::Inside {
+            entries,
+            outer: &*outer,
+        };
+        entries.len() <= 16 && entries_fit(entries, tables.len()) && self.cond.fits(tables, &levels)
+    }
+
+    /// Whether the block fits, and a term compares with what it selects.
+    #[cycle(fits)]
+    fn selects(&self, tables: &[Table], outer: &Levels, op: Op, left: &Term, item: &Term) -> bool
+        ensures { result ≡ selected_fits tables.now (tables_of_levels outer.now) op left.now (block_meaning tables.now self.now) item.now }
+    {
+        let entries = self.entries.as_slice();
+        let levels = Levels::Inside {
+            entries,
+            outer: &*outer,
+        };
+        self.fits(tables, outer)
+            && item.is_plain()
+            && both_compare(op, left.kind(tables, outer), item.kind(tables, &levels))
+    }
+}
+
+/// The most conditions of a query, those of its subqueries counted, and of a CHECK.
+const MOST_CONDITIONS: u32 = 65_536;
+
+impl Cond {
+    /// What is left of a number after each condition, those of subqueries too, took one away. `None`
+    /// where there are more.
+    #[cycle(count)]
+    fn spend(&self, left: u32) -> Option<u32>
+        ensures some { IfSome result (λ rest. rest + count_conditions self.now ≡ left) }
+        ensures none { IfNone result (left < count_conditions self.now) }
+    {
+        let left = left.checked_sub(1)?;
+        match self {
+            Cond::True | Cond::False | Cond::Compare { .. } | Cond::IsNull { .. } => Some(left),
+            Cond::And(parts) | Cond::Or(parts) => spend_all(parts.as_slice(), left),
+            Cond::Not(part) => part.get().spend(left),
+            Cond::Exists { block, .. } | Cond::In { block, .. } | Cond::Scalar { block, .. } => {
+                block.get().spend(left)
+            }
+        }
+    }
+}
+
+#[cycle(count)]
+fn spend_all(conds: &[Cond], left: u32) -> Option<u32>
+    ensures some { IfSome result (λ rest. rest + sum_by count_conditions conds.now ≡ left) }
+    ensures none { IfNone result (left < sum_by count_conditions conds.now) }
+{
+    let mut rest = left;
+    for cond in conds {
+        rest = cond.spend(rest)?;
+    }
+    Some(rest)
+}
+
+impl Block {
+    #[cycle(count)]
+    fn spend(&self, left: u32) -> Option<u32>
+        ensures some { IfSome result (λ rest. rest + count_conditions (out-Block self.now).cond ≡ left) }
+        ensures none { IfNone result (left < count_conditions (out-Block self.now).cond) }
+    {
+        self.cond.spend(left)
+    }
+}
+
+impl Cond {
+    fn is_within_limit(&self) -> bool
+        ensures { result ≡ nat_le (count_conditions self.now) MOST_CONDITIONS }
+    {
+        self.spend(MOST_CONDITIONS).is_some()
+    }
+
+    #[cycle(flat)]
+    fn is_flat(&self) -> bool
+        ensures { result ≡ is_flat self.now }
+    {
+        match self {
+            Cond::True | Cond::False | Cond::Compare { .. } | Cond::IsNull { .. } => true,
+            Cond::And(parts) | Cond::Or(parts) => all_flat(parts.as_slice()),
+            Cond::Not(part) => part.get().is_flat(),
+            Cond::Exists { .. } | Cond::In { .. } | Cond::Scalar { .. } => false,
+        }
+    }
+
+    /// Whether the condition fits as a CHECK of the table of this number.
+    pub(crate) fn fits_check(&self, tables: &[Table], table: u32) -> bool
+        ensures { result ≡ check_fits tables.now table self.now }
+    {
+        self.is_flat() && self.is_within_limit() && self.fits(tables, &Levels::Row(table))
+    }
+}
+
+#[cycle(flat)]
+fn all_flat(conds: &[Cond]) -> bool
+    ensures { result ≡ list_all is_flat conds.now }
+{
+    for cond in conds {
+        if !cond.is_flat() {
+            return false;
+        }
+    }
+    true
+}
+
+impl Block {
+    fn fits_alone(&self, tables: &[Table]) -> bool
+        ensures { result ≡ block_fits tables.now [] self.now }
+    {
+        self.fits(tables, &Levels::Outside)
+    }
+}
+
+impl Item {
+    fn fits(&self, tables: &[Table], levels: &Levels) -> bool
+        ensures { result ≡ item_fits tables.now (tables_of_levels levels.now) self.now }
+    {
+        self.term.kind(tables, levels).is_some() && self.term.is_plain()
+    }
+}
+
+fn items_fit(items: &[Item], tables: &[Table], levels: &Levels) -> bool
+    ensures { result ≡ list_all (item_fits tables.now (tables_of_levels levels.now)) items.now }
+{
+    items.iter().all(|i| i.fits(tables, levels))
+}
+
+fn order_fits(keys: &[Term], tables: &[Table], levels: &Levels) -> bool
+    ensures { result ≡ list_all (order_fits tables.now (tables_of_levels levels.now)) keys.now }
+{
+    keys.iter().all(|k| {
+        matches!(k, Term::Cell { .. }) && k.kind(tables, levels).is_some() && k.is_plain()
+    })
+}
+
 impl Query {
-    /// Whether the query fits the schema: each entry's table and each cell exists, there are at most 16
-    /// entries and 256 items, and nothing is added to an item. It takes no memory.
+    /// Whether the query fits the schema. Every position in it exists, where tables, levels, entries and
+    /// columns count from 0. The two sides of each comparison are of one kind or one is NULL, and texts
+    /// are compared by `=` and `<>` alone, also with NULL; what a subquery of IN or of an operator selects
+    /// is a side too. Nothing is added to a text, to what is selected or to an order key, and an order
+    /// key is a column. There are at most 16 entries in each FROM list, 256 items, and 65,536 conditions,
+    /// those of subqueries counted. It takes no memory.
     pub fn fits(&self, schema: &Schema) -> bool
         ensures { result ≡ query_fits schema.now self.now }
     {
         let tables = schema.tables().as_slice();
-        let entries = self.block.entries.as_slice();
+        self.selection_fits(tables)
+            && self.block.fits_alone(tables)
+            && self.block.cond.is_within_limit()
+    }
+
+    fn selection_fits(&self, tables: &[Table]) -> bool
+        ensures { result ≡ selection_fits tables.now self.now }
+    {
+        let levels = Levels::Inside {
+            entries: self.block.entries.as_slice(),
+            outer: &Levels::Outside,
+        };
+        self.selection_fits_in(tables, &levels)
+    }
+
+    #[tactic(auto, unfolding(crate::specs::Fits::selection_fits_in))]
+    fn selection_fits_in(&self, tables: &[Table], levels: &Levels) -> bool
+        ensures { result ≡ selection_fits_in tables.now (tables_of_levels levels.now) self.now }
+    {
         let items = self.items.as_slice();
-        entries.len() <= 16
-            && entries_fit(entries, tables.len())
-            && items.len() <= 256
-            && items_fit(items, tables, entries)
-            && self.block.cond.fits(tables, entries)
+        items.len() <= 256
+            && items_fit(items, tables, levels)
+            && order_fits(self.order.as_slice(), tables, levels)
     }
 }
 
 #[cfg(test)]
 mod tests {
     use super::*;
-    use crate::condition::Op;
-    use crate::query::Block;
+    use crate::database::Value;
     use crate::schema::{Column, Domain, Unit};
     use lint_base::{Items, NoMemory, Span, Str};
+    use sqlite_items::Boxed;
     use std::alloc::Global;
     use std::test::Fail;
 
     const PLACE: Span = Span { from: 0, to: 1 };
 
-    fn cell(entry: u32, column: u32, plus: i64) -> Term {
-        Term::Cell {
-            level: 0,
-            entry,
-            column,
-            plus,
+    /// A term of the tests. Column 0 of their table is a number, column 1 a text.
+    #[derive(Clone, Copy, Debug, PartialEq, Eq)]
+    enum Side {
+        Cell(u32, u32, u32, i64),
+        Five,
+        Word,
+        Null,
+    }
+
+    use Side::{Cell, Five, Null, Word};
+
+    const NUMBER: Side = Cell(0, 0, 0, 0);
+
+    const TEXT: Side = Cell(0, 0, 1, 0);
+
+    fn term(alloc: Global, side: Side) -> Result<Term, NoMemory> {
+        match side {
+            Cell(level, entry, column, plus) => Ok(Term::Cell {
+                level,
+                entry,
+                column,
+                plus,
+            }),
+            Five => Ok(Term::Number {
+                value: 5,
+                unit: Unit::Whole,
+            }),
+            Word => Ok(Term::Text(Str::from_str(alloc, "x")?)),
+            Null => Ok(Term::Null),
         }
     }
 
-    fn one_table(alloc: Global) -> Result<Items<Table>, NoMemory> {
+    fn compare(alloc: Global, left: Side, op: Op, right: Side) -> Result<Cond, NoMemory> {
+        Ok(Cond::Compare {
+            op,
+            left: term(alloc, left)?,
+            right: term(alloc, right)?,
+            span: PLACE,
+        })
+    }
+
+    fn is_null(alloc: Global, side: Side) -> Result<Cond, NoMemory> {
+        Ok(Cond::IsNull {
+            term: term(alloc, side)?,
+            negated: false,
+            span: PLACE,
+        })
+    }
+
+    fn and_trues(alloc: Global, count: u32) -> Result<Cond, NoMemory> {
+        let mut parts = Items::new(alloc);
+        for _ in 0..count {
+            parts.push(Cond::True)?;
+        }
+        Ok(Cond::And(parts))
+    }
+
+    fn block(alloc: Global, table: u32, count: u32, cond: Cond) -> Result<Block, NoMemory> {
+        let mut entries = Items::new(alloc);
+        for _ in 0..count {
+            entries.push(Entry {
+                table,
+                name: Str::from_str(alloc, "E")?,
+                span: PLACE,
+            })?;
+        }
+        Ok(Block {
+            entries,
+            cond,
+            span: PLACE,
+        })
+    }
+
+    fn exists(alloc: Global, block: Block) -> Result<Cond, NoMemory> {
+        Ok(Cond::Exists {
+            block: Boxed::new(alloc, block)?,
+            span: PLACE,
+        })
+    }
+
+    fn one_table(alloc: Global, check: Cond) -> Result<Items<Table>, NoMemory> {
         let mut columns = Items::new(alloc);
         columns.push(Column {
-            name: Str::from_str(alloc, "A")?,
+            name: Str::from_str(alloc, "N")?,
             domain: Domain::Number {
                 least: -32768,
                 greatest: 32767,
                 unit: Unit::Whole,
             },
+            not_null: false,
         })?;
+        columns.push(Column {
+            name: Str::from_str(alloc, "S")?,
+            domain: Domain::Text { length: 9 },
+            not_null: true,
+        })?;
+        let mut checks = Items::new(alloc);
+        checks.push(check)?;
         let mut tables = Items::new(alloc);
         tables.push(Table {
             name: Str::from_str(alloc, "T")?,
             columns,
+            keys: Items::new(alloc),
+            checks,
+            foreign: Items::new(alloc),
         })?;
         Ok(tables)
     }
 
-    fn query(alloc: Global, table: u32, item: Term, left: Term) -> Result<Query, NoMemory> {
+    fn query(
+        alloc: Global,
+        item: Side,
+        count: u32,
+        order: Side,
+        block: Block,
+    ) -> Result<Query, NoMemory> {
         let mut items = Items::new(alloc);
-        items.push(Item {
-            term: item,
-            star: false,
-            span: PLACE,
-        })?;
-        let mut entries = Items::new(alloc);
-        entries.push(Entry {
-            table,
-            name: Str::from_str(alloc, "T")?,
-            span: PLACE,
-        })?;
-        let mut parts = Items::new(alloc);
-        parts.push(Cond::Compare {
-            op: Op::Lt,
-            left,
-            right: Term::Number {
-                value: 5,
-                unit: Unit::Whole,
-            },
-            span: PLACE,
-        })?;
-        Ok(Query {
-            items,
-            block: Block {
-                entries,
-                cond: Cond::And(parts),
+        for _ in 0..count {
+            items.push(Item {
+                term: term(alloc, item)?,
+                star: true,
                 span: PLACE,
-            },
+            })?;
+        }
+        let mut keys = Items::new(alloc);
+        keys.push(term(alloc, order)?)?;
+        Ok(Query {
+            distinct: Some(PLACE),
+            items,
+            block,
+            order: keys,
+        })
+    }
+
+    /// Whether a query over two rows of the table fits with this condition, and its copy too.
+    fn fits(alloc: Global, cond: Cond) -> Result<bool, Fail> {
+        let schema = Schema::new(one_table(alloc, Cond::True)?).ok_or("a schema")?;
+        let query = query(alloc, NUMBER, 1, TEXT, block(alloc, 0, 2, cond)?)?;
+        let copy = query.copy(alloc)?;
+        Ok(query.fits(&schema) && copy.fits(&schema))
+    }
+
+    #[test]
+    fn comparisons_fit(rt: HostRuntime) -> Result<(), Fail> {
+        let alloc = rt.alloc();
+        for (left, op, right, expected) in [
+            (Cell(0, 1, 0, 7), Op::Lt, Five, true),
+            // no such level, entry or column, on either side
+            (Cell(1, 0, 0, 0), Op::Eq, Five, false),
+            (Cell(0, 2, 0, 0), Op::Eq, Five, false),
+            (Cell(0, 0, 2, 0), Op::Eq, Five, false),
+            (Five, Op::Eq, Cell(0, 0, 2, 0), false),
+            // texts by = and <> alone
+            (TEXT, Op::Eq, Word, true),
+            (TEXT, Op::Ne, TEXT, true),
+            (TEXT, Op::Lt, Word, false),
+            (Word, Op::Ge, TEXT, false),
+            // a number beside a text
+            (NUMBER, Op::Eq, Word, false),
+            (TEXT, Op::Ne, Five, false),
+            // NULL goes with both
+            (NUMBER, Op::Lt, Null, true),
+            (Null, Op::Eq, TEXT, true),
+            (Null, Op::Gt, TEXT, false),
+            (TEXT, Op::Le, Null, false),
+            (Null, Op::Ge, Null, true),
+            // nothing is added to a text
+            (Cell(0, 0, 1, 1), Op::Eq, TEXT, false),
+        ] {
+            let cond = compare(alloc, left, op, right)?;
+            assert_eq!(rt; fits(alloc, cond)?, expected, "{left:?} {op:?} {right:?}");
+        }
+        Ok(())
+    }
+
+    /// The condition, negated, in a conjunction and in a disjunction.
+    fn wrapped(alloc: Global, form: u32, cond: Cond) -> Result<Cond, NoMemory> {
+        if form == 0 {
+            return Ok(cond);
+        }
+        if form == 1 {
+            return Ok(Cond::Not(Boxed::new(alloc, cond)?));
+        }
+        let mut parts = Items::new(alloc);
+        parts.push(Cond::False)?;
+        parts.push(cond)?;
+        Ok(if form == 2 {
+            Cond::And(parts)
+        } else {
+            Cond::Or(parts)
         })
     }
 
     #[test]
-    fn queries_fit_where_each_position_exists(rt: HostRuntime) -> Result<(), Fail> {
+    fn parts_fit(rt: HostRuntime) -> Result<(), Fail> {
         let alloc = rt.alloc();
-        let schema = Schema::new(one_table(alloc)?).ok_or("a schema")?;
-        let plain = cell(0, 0, 0);
-        let cases = [
-            (0, plain, plain, true),
-            (0, plain, cell(0, 0, 7), true),
-            (1, plain, plain, false),
-            (0, cell(0, 0, 7), plain, false),
-            (0, cell(0, 1, 0), plain, false),
-            (0, plain, cell(0, 1, 0), false),
-            (0, plain, cell(1, 0, 0), false),
-        ];
-        for (table, item, left, fits) in cases {
-            let query = query(alloc, table, item, left)?;
-            assert_eq!(rt; query.fits(&schema), fits);
-            let copy = query.copy(alloc)?;
-            assert_eq!(rt; copy.fits(&schema), fits);
-            for entry in copy.block.entries.as_slice() {
-                assert_eq!(rt; entry.name.copy(alloc)?.as_str(), "T");
+        for (side, expected) in [
+            (Cell(0, 0, 0, 1), true),
+            (TEXT, true),
+            (Cell(0, 0, 1, 1), false),
+            (Cell(0, 0, 2, 0), false),
+            (Null, true),
+            (Word, true),
+        ] {
+            for form in 0..4 {
+                let cond = wrapped(alloc, form, is_null(alloc, side)?)?;
+                assert_eq!(rt; fits(alloc, cond)?, expected, "{side:?} in form {form}");
             }
         }
+        Ok(())
+    }
+
+    #[test]
+    fn subqueries_fit(rt: HostRuntime) -> Result<(), Fail> {
+        let alloc = rt.alloc();
+        let inner = Cell(1, 0, 0, 0);
+        let inner_text = Cell(1, 0, 1, 0);
+        for (left, op, item, table, filter, expected) in [
+            (NUMBER, Op::Lt, inner, 0, NUMBER, true),
+            (NUMBER, Op::Lt, NUMBER, 0, inner, true),
+            // a text by <, which IN has not
+            (TEXT, Op::Lt, inner_text, 0, inner, false),
+            (TEXT, Op::Eq, inner_text, 0, inner, true),
+            (NUMBER, Op::Eq, inner_text, 0, inner, false),
+            (NUMBER, Op::Eq, Null, 0, inner, true),
+            // no such cell in the term, the item, the FROM list or the filter
+            (inner, Op::Eq, inner, 0, inner, false),
+            (NUMBER, Op::Eq, Cell(1, 1, 0, 0), 0, inner, false),
+            (NUMBER, Op::Eq, Cell(2, 0, 0, 0), 0, inner, false),
+            (NUMBER, Op::Eq, Five, 1, Five, false),
+            (NUMBER, Op::Eq, inner, 0, Cell(1, 0, 2, 0), false),
+            // the filter compares a number, and nothing is added to an item
+            (NUMBER, Op::Eq, inner, 0, inner_text, false),
+            (NUMBER, Op::Eq, Cell(1, 0, 0, 1), 0, inner, false),
+        ] {
+            let filter = compare(alloc, filter, Op::Lt, Five)?;
+            let cond = Cond::Scalar {
+                op,
+                left: term(alloc, left)?,
+                block: Boxed::new(alloc, block(alloc, table, 1, filter)?)?,
+                item: term(alloc, item)?,
+                span: PLACE,
+            };
+            assert_eq!(rt;
+                fits(alloc, cond)?,
+                expected,
+                "{left:?} {op:?} {item:?} of {table}"
+            );
+        }
+        Ok(())
+    }
+
+    #[test]
+    fn in_and_exists_fit(rt: HostRuntime) -> Result<(), Fail> {
+        let alloc = rt.alloc();
+        for (item, filter, expected) in [
+            (Cell(1, 0, 1, 0), Cell(1, 0, 0, 0), true),
+            (Cell(1, 0, 0, 0), Cell(1, 0, 0, 0), false),
+            (Cell(1, 0, 1, 0), Cell(1, 0, 1, 0), false),
+            (Cell(1, 0, 1, 0), Cell(1, 1, 0, 0), false),
+        ] {
+            let within = compare(alloc, filter, Op::Lt, NUMBER)?;
+            let is_in = Cond::In {
+                term: term(alloc, TEXT)?,
+                block: Boxed::new(alloc, block(alloc, 0, 1, within)?)?,
+                item: term(alloc, item)?,
+                negated: true,
+                span: PLACE,
+            };
+            assert_eq!(rt; fits(alloc, is_in)?, expected, "{item:?} with {filter:?}");
+        }
+        for (filter, expected) in [
+            (Cell(2, 0, 0, 0), true),
+            (Cell(2, 1, 0, 0), false),
+            (Cell(1, 0, 1, 0), false),
+        ] {
+            let within = compare(alloc, filter, Op::Lt, Cell(1, 0, 0, 0))?;
+            let inside = exists(alloc, block(alloc, 0, 1, within)?)?;
+            let outside = exists(alloc, block(alloc, 0, 1, inside)?)?;
+            assert_eq!(rt; fits(alloc, outside)?, expected, "{filter:?} two levels in");
+        }
+        Ok(())
+    }
+
+    #[test]
+    fn selections_fit(rt: HostRuntime) -> Result<(), Fail> {
+        let alloc = rt.alloc();
+        let schema = Schema::new(one_table(alloc, Cond::True)?).ok_or("a schema")?;
+        for (item, count, order, table, entries, expected) in [
+            (TEXT, 256, NUMBER, 0, 16, true),
+            (TEXT, 257, NUMBER, 0, 16, false),
+            (TEXT, 1, NUMBER, 0, 17, false),
+            (TEXT, 1, NUMBER, 1, 1, false),
+            (Word, 1, NUMBER, 0, 1, true),
+            (Cell(0, 0, 0, 1), 1, NUMBER, 0, 1, false),
+            (Cell(0, 1, 0, 0), 1, NUMBER, 0, 1, false),
+            (NUMBER, 1, Cell(0, 0, 0, 1), 0, 1, false),
+            (NUMBER, 1, Cell(0, 0, 2, 0), 0, 1, false),
+            (NUMBER, 1, Five, 0, 1, false),
+        ] {
+            let from = block(alloc, table, entries, Cond::True)?;
+            let query = query(alloc, item, count, order, from)?;
+            assert_eq!(rt;
+                query.fits(&schema),
+                expected,
+                "{count} {item:?} of {entries}"
+            );
+        }
+        Ok(())
+    }
+
+    #[test]
+    fn conditions_are_counted(rt: HostRuntime) -> Result<(), Fail> {
+        let alloc = rt.alloc();
+        for (trues, inside, expected) in [
+            (65_535, false, true),
+            (65_536, false, false),
+            (65_534, true, true),
+            (65_535, true, false),
+        ] {
+            let within = and_trues(alloc, trues)?;
+            let cond = if inside {
+                exists(alloc, block(alloc, 0, 1, within)?)?
+            } else {
+                within
+            };
+            assert_eq!(rt; fits(alloc, cond)?, expected, "{trues} inside {inside}");
+        }
+        for (trues, expected) in [(65_535, true), (65_536, false)] {
+            let tables = one_table(alloc, and_trues(alloc, trues)?)?;
+            assert_eq!(rt;
+                Schema::new(tables).is_some(),
+                expected,
+                "a CHECK of {trues}"
+            );
+        }
+        Ok(())
+    }
+
+    #[test]
+    fn checks_fit_their_table(rt: HostRuntime) -> Result<(), Fail> {
+        let alloc = rt.alloc();
+        for (left, op, right, expected) in [
+            (Cell(0, 0, 0, 1), Op::Lt, Five, true),
+            (Cell(0, 1, 0, 0), Op::Lt, Five, false),
+            (Cell(1, 0, 0, 0), Op::Lt, Five, false),
+            (Cell(0, 0, 2, 0), Op::Lt, Five, false),
+            (TEXT, Op::Lt, Word, false),
+        ] {
+            for form in 0..4 {
+                let check = wrapped(alloc, form, compare(alloc, left, op, right)?)?;
+                let schema = Schema::new(one_table(alloc, check)?);
+                assert_eq!(rt; schema.is_some(), expected, "{left:?} {op:?} {right:?}");
+            }
+        }
+        for form in 0..4 {
+            let inside = exists(alloc, block(alloc, 0, 1, Cond::True)?)?;
+            let schema = Schema::new(one_table(alloc, wrapped(alloc, form, inside)?)?);
+            assert_eq!(rt; schema.is_some(), false, "a subquery in form {form}");
+        }
+        Ok(())
+    }
+
+    fn text_of(value: &Value) -> Option<&str> {
+        match value {
+            Value::Text(text) => Some(text.as_str()),
+            _ => None,
+        }
+    }
+
+    /// The text on the left of `<>`.
+    fn left_text(cond: &Cond) -> Option<&str> {
+        match cond {
+            Cond::Compare {
+                op: Op::Ne,
+                left: Term::Text(text),
+                ..
+            } => Some(text.as_str()),
+            _ => None,
+        }
+    }
+
+    #[test]
+    fn copies_hold_what_was_given(rt: HostRuntime) -> Result<(), Fail> {
+        let alloc = rt.alloc();
+        for (value, text) in [(Value::Null, None), (Value::Int(-3), None)] {
+            assert_eq!(rt; text_of(&value.copy(alloc)?), text);
+        }
+        let word = Value::Text(Str::from_str(alloc, "x")?);
+        assert_eq!(rt; text_of(&word.copy(alloc)?), Some("x"));
+        let copy = compare(alloc, Word, Op::Ne, Five)?.copy(alloc)?;
+        assert_eq!(rt; left_text(&copy), Some("x"));
         Ok(())
     }
 }

@@ -1,36 +1,42 @@
 //! What sqllint speaks about: schemas, queries, databases, questions and their answers, and the
 //! definitions of what they mean.
 //!
-//! The layer above may use every public type, `Schema::new`, `Query::fits` and the copies. Of `specs/`
-//! a reader must believe `Schema` and `Fits` (which schemas and queries there are), `FirstForm` (which
-//! queries are read so far), `Domain`, `Database`, `Meets`, `Truth`, `Comparison`, `Condition` and
-//! `Question` (what SQL means), `Formula`, `Translation` and `Certificate` (what a certificate is), and
-//! `Answer` (when an answer is right). The laws that join them are contracts of functions that do
-//! nothing: `formula_says_truth` (the formula of a condition holds exactly where it is true),
-//! `sentence_says_failure` (the sentence of a question holds exactly where some points refute it),
-//! `accepted_steps_refute` (a sentence that accepted steps refute holds in no database of the
-//! schema), and `certified_question_holds`, which follows from these. The queries and conditions that
-//! they speak of fit their schema.
+//! The layer above may use every public type, `Schema::new`, `Query::fits`, `Query::is_first_form` and
+//! the copies. Of `specs/` a reader must believe `Schema` and `Fits` (which schemas and queries there
+//! are), `Domain`, `Database`, `Meets`, `Truth`, `Comparison`, `Condition` and `Question` (what SQL
+//! means), `FirstForm` (which queries are judged so far), `Formula`, `Translation` and `Certificate`
+//! (what a certificate is), and `Answer` (when an answer is right). The laws that join them are
+//! contracts of functions that do nothing: `first_form_is_tested` (the test of the first form says yes
+//! exactly of these queries), `formula_says_truth` (the formula of a WHERE holds exactly where it is
+//! true), `sentence_says_failure` (the sentence of a question holds exactly where some points refute
+//! it), `accepted_steps_refute` (a sentence that accepted steps refute holds in no database of the
+//! schema), and `certified_question_holds`, which follows from these. `accepted_steps_refute` is about
+//! every schema and sentence; the laws about queries are about those of the first form.
+//! `worked_truths` and `worked_constraints` show the meaning by small examples (`Examples`).
 #![tactic(auto)]
 
 mod certificate;
 mod condition;
 mod copies;
 mod database;
+mod first_form;
 mod fits;
 mod formula;
 mod laws;
 mod query;
 mod run;
 mod schema;
+mod worked;
 
 pub use certificate::{Cert, Step, SumEdge};
-pub use condition::{Cond, Op, Term};
+pub use condition::{Block, Cond, Entry, Term};
 pub use database::{Binding, Counter, Database, Points, Row, Truth, Value};
 pub use formula::{Atom, Formula, Side};
 pub use laws::{
-    accepted_steps_refute, certified_question_holds, formula_says_truth, sentence_says_failure,
+    accepted_steps_refute, certified_question_holds, first_form_is_tested, formula_says_truth,
+    sentence_says_failure,
 };
-pub use query::{Block, Entry, Item, Query, Question};
+pub use query::{Item, Query, Question};
 pub use run::{Answer, QueryResult, QueryRun, Run};
-pub use schema::{Column, Domain, Schema, Table, Unit};
+pub use schema::{Column, Domain, ForeignKey, Key, Schema, Table, Unit};
+pub use worked::{worked_constraints, worked_truths};

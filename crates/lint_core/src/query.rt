@@ -1,36 +1,23 @@
 //! Queries in their bound form, and the questions asked of them.
-use crate::condition::{Cond, Term};
-use lint_base::{Items, Span, Str};
+use crate::condition::{Block, Term};
+use lint_base::{Items, Span};
 
-/// An entry of a FROM list: the number of its table, its visible name and its place.
-#[derive(Drop)]
-pub struct Entry {
-    pub table: u32,
-    pub name: Str,
-    pub span: Span,
-}
-
-/// A FROM list with its condition.
-#[derive(Drop)]
-pub struct Block {
-    pub entries: Items<Entry>,
-    pub cond: Cond,
-    pub span: Span,
-}
-
-/// A selected item. `star` says that it comes from `*`.
-#[derive(Clone, Copy, Debug, PartialEq, Eq)]
+/// A selected item. `star` says that it comes from `*`. Nothing is added to its column.
+#[derive(Debug, Drop)]
 pub struct Item {
     pub term: Term,
     pub star: bool,
     pub span: Span,
 }
 
-/// A query: what it selects, and from which combinations of rows.
+/// A query: what it selects, and from which combinations of rows. `distinct` is the place of DISTINCT,
+/// `order` the columns of ORDER BY.
 #[derive(Drop)]
 pub struct Query {
+    pub distinct: Option<Span>,
     pub items: Items<Item>,
     pub block: Block,
+    pub order: Items<Term>,
 }
 
 /// What is asked of a query.

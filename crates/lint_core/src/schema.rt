@@ -1,9 +1,13 @@
 //! Schemas: tables, their columns and the columns' domains.
-ghost use Rattle.std.specs.Prelude.{◌≡◌, true, false, IfSome, OnSome, IfNone, IsNone, ◌↔◌};
-ghost use Rattle.std.specs.List.{list_all};
-ghost use Rattle.lint_core.specs.Schema.{is_domain, is_table, is_schema};
+ghost use Rattle.std.specs.Prelude.{◌≡◌, true, false, IfSome, IfNone, ◌≤◌, length, nat_eq, nat_lt, slice_get, Some};
+ghost use Rattle.std.specs.List.{list_all, list_any, zip};
+ghost use Rattle.lint_core.specs.Fits.{check_fits};
+ghost use Rattle.lint_core.specs.Kind.{kind_of, column_kind, are_of_one_kind, goes_with, compares, with_added};
+ghost use Rattle.lint_core.specs.Schema.{is_domain, are_columns, are_keys, are_checks, is_within, are_columns_of, are_paired, refers_to, are_foreign_keys, is_table, are_tables, is_schema};
 
+use crate::condition::Cond;
 use lint_base::{Items, Str};
+use lint_tables::Op;
 use std::marker::Model;
 
 /// What a number counts in.
@@ -11,6 +15,14 @@ use std::marker::Model;
 pub enum Unit {
     /// Whole numbers.
     Whole,
+}
+
+/// What may be compared: numbers of one unit with each other, and texts. NULL goes with both.
+#[derive(Clone, Copy, Debug, PartialEq, Eq)]
+pub(crate) enum Kind {
+    Null,
+    Number(Unit),
+    Text,
 }
 
 /// The values that a column may hold beside NULL.
@@ -22,20 +34,102 @@ pub enum Domain {
         greatest: i64,
         unit: Unit,
     },
+    /// Texts. The length, 1 to 65,535, restricts nothing.
+    Text {
+        length: u32,
+    },
 }
 
-/// A column, by its name and its domain.
-#[derive(Drop)]
+impl Kind {
+    fn goes_with(self, other: Kind) -> bool
+        ensures { result ≡ goes_with self other }
+    {
+        match (self, other) {
+            (Kind::Null, _) | (_, Kind::Null) | (Kind::Text, Kind::Text) => true,
+            (Kind::Number(unit), Kind::Number(other)) => unit == other,
+            (Kind::Number(_), Kind::Text) | (Kind::Text, Kind::Number(_)) => false,
+        }
+    }
+
+    /// Whether the operator compares values of the two kinds.
+    pub(crate) fn compares(self, op: Op, other: Kind) -> bool
+        ensures { result ≡ compares op self other }
+    {
+        let texts = matches!(self, Kind::Text) || matches!(other, Kind::Text);
+        self.goes_with(other) && (matches!(op, Op::Eq | Op::Ne) || !texts)
+    }
+
+    /// The kind with a number added: nothing is added to a text.
+    pub(crate) fn with_added(self, added: i64) -> Option<Kind>
+        ensures { result ≡ with_added added self }
+    {
+        match self {
+            Kind::Text if added != 0 => None,
+            kind => Some(kind),
+        }
+    }
+}
+
+impl Domain {
+    fn is_known(&self) -> bool
+        ensures { result ≡ is_domain self.now }
+    {
+        match *self {
+            Domain::Number {
+                least,
+                greatest,
+                unit: Unit::Whole,
+            } => matches!(
+                (least, greatest),
+                (-0x8000, 0x7fff) | (-0x8000_0000, 0x7fff_ffff) | (i64::MIN, i64::MAX)
+            ),
+            Domain::Text { length } => length >= 1 && length <= 65_535,
+        }
+    }
+
+    fn kind(&self) -> Kind
+        ensures { result ≡ kind_of self.now }
+    {
+        match self {
+            Domain::Number { unit, .. } => Kind::Number(*unit),
+            Domain::Text { .. } => Kind::Text,
+        }
+    }
+}
+
+/// A column, by its name and its domain. `not_null` marks a column that is NOT NULL or in the primary
+/// key.
+#[derive(Debug, Drop)]
 pub struct Column {
     pub name: Str,
     pub domain: Domain,
+    pub not_null: bool,
 }
 
-/// A table, by its name and its columns in order.
+/// The columns of a UNIQUE or PRIMARY KEY constraint, by their numbers from 0.
+#[derive(Debug, Drop)]
+pub struct Key {
+    pub columns: Items<u32>,
+}
+
+/// A foreign key: its own columns, and the column of the target table that each of them refers to. These
+/// are, as a set, the columns of a key of the target table.
+#[derive(Debug, Drop)]
+pub struct ForeignKey {
+    pub columns: Items<u32>,
+    pub target: u32,
+    pub target_columns: Items<u32>,
+}
+
+/// A table: its name, its columns in order and its constraints. The primary key, if there is one, is the
+/// first of the keys.
 #[derive(Drop)]
 pub struct Table {
     pub name: Str,
     pub columns: Items<Column>,
+    pub keys: Items<Key>,
+    pub checks: Items<Cond>,
+    pub foreign: Items<ForeignKey>,
 }
 
 /// The tables of a database, in the order in which they were declared.
@@ -48,17 +142,27 @@ impl Model for Schema {
     ghost use Rattle.std.specs.Prelude.{◌≡◌, List, true};
     ghost use Rattle.lint_core.specs.declared.schema.Table.{Table};
     ghost use Rattle.lint_core.specs.Schema.{is_schema};
+    ghost use Rattle.std.specs.Coded.{codes};
+    ghost use Rattle.lint_core.specs.contracts.condition.Cond as cond;
 
     ghost Value = { List Table };
 
     ghost view = { λ s. s.tables };
 
     ghost invariant = { λ s. is_schema s.tables ≡ true };
+
+    // a code for each condition tells two lists of tables apart
+    ghost coded = { Prim.hlevel (codes, cond.the_row.coded) };
 }
 
 impl Schema {
-    /// The schema of these tables. `None` exactly where a domain is none of the ranges of SMALLINT,
-    /// INTEGER and BIGINT, a table has more than 64 columns, or there are more than 200 tables.
+    /// The schema of these tables. `None` exactly where a position in them is out of range; where a domain
+    /// is none of the ranges of SMALLINT, INTEGER and BIGINT, nor a text of 1 to 65,535 characters; where
+    /// the two lists of a foreign key differ in length, its target columns are not, as a set and as many,
+    /// those of a key of the target, or a column and its target column differ in kind; where a CHECK has a
+    /// subquery or does not fit its table, in the sense of `Query::fits` with the one row as its level; or
+    /// where there are more than 200 tables, or more than 64 columns, 1,000 keys, 1,000 CHECKs or 1,000
+    /// foreign keys of a table, or 65,536 conditions of a CHECK. It takes no memory.
     pub fn new(tables: Items<Table>) -> Option<Schema>
         ensures some { IfSome result (λ s. (s ≡ tables) × (is_schema tables ≡ true)) }
         ensures none { IfNone result (is_schema tables ≡ false) }
@@ -86,9 +190,21 @@ fn are_a_schema(tables: &[Table]) -> bool
 }
 
 fn are_tables(tables: &[Table]) -> bool
-    ensures { result ≡ list_all is_table tables.now }
+    requires { length tables.now ≤ 200 }
+    ensures { result ≡ are_tables tables.now 0 tables.now }
 {
-    tables.iter().all(|t| t.is_within_limits())
+    for (number, table) in tables.iter().enumerate() {
+        if !table.fits(tables, number as u32) {
+            return false;
+        }
+    }
+    true
+}
+
+fn are_columns(columns: &[Column]) -> bool
+    ensures { result ≡ are_columns columns.now }
+{
+    columns.len() <= 64 && have_known_domains(columns)
 }
 
 fn have_known_domains(columns: &[Column]) -> bool
@@ -97,28 +213,143 @@ fn have_known_domains(columns: &[Column]) -> bool
     columns.iter().all(|c| c.domain.is_known())
 }
 
-impl Domain {
-    fn is_known(&self) -> bool
-        ensures { result ≡ is_domain self.now }
+impl Key {
+    fn is_below(&self, count: usize) -> bool
+        ensures { result ≡ list_all (λ column. nat_lt column count) self.now.columns }
     {
-        let Domain::Number {
-            least,
-            greatest,
-            unit: Unit::Whole,
-        } = *self;
-        matches!(
-            (least, greatest),
-            (-0x8000, 0x7fff) | (-0x8000_0000, 0x7fff_ffff) | (i64::MIN, i64::MAX)
-        )
+        self.columns
+            .as_slice()
+            .iter()
+            .all(|c| (*c as usize) < count)
+    }
+
+    /// Whether the columns are, as a set, those of the key, and as many.
+    fn has_columns(&self, columns: &[u32]) -> bool
+        ensures { result ≡ are_columns_of columns.now self.now }
+    {
+        let own = self.columns.as_slice();
+        columns.len() == own.len() && is_within(columns, own) && is_within(own, columns)
     }
 }
 
-impl Table {
-    fn is_within_limits(&self) -> bool
-        ensures { result ≡ is_table self.now }
+fn is_within(numbers: &[u32], others: &[u32]) -> bool
+    ensures { result ≡ is_within numbers.now others.now }
+{
+    numbers.iter().all(|n| is_among(*n, others))
+}
+
+fn is_among(number: u32, others: &[u32]) -> bool
+    ensures { result ≡ list_any (nat_eq number) others.now }
+{
+    others.iter().any(|o| number == *o)
+}
+
+fn one_kind(one: Option<Kind>, other: Option<Kind>) -> bool
+    ensures { result ≡ are_of_one_kind one other }
+{
+    match (one, other) {
+        (Some(one), Some(other)) => one.goes_with(other),
+        _ => false,
+    }
+}
+
+impl ForeignKey {
+    fn fits(&self, tables: &[Table], table: &Table) -> bool
+        ensures { result ≡ refers_to table.now self.now (slice_get tables.now self.now.target) }
     {
-        let columns = self.columns.as_slice();
-        columns.len() <= 64 && have_known_domains(columns)
+        match tables.get(self.target as usize) {
+            Some(target) => self.refers_to(table, target),
+            None => false,
+        }
+    }
+
+    fn refers_to(&self, table: &Table, target: &Table) -> bool
+        ensures { result ≡ refers_to table.now self.now (Some target.now) }
+    {
+        let others = self.target_columns.as_slice();
+        are_paired(table, target, self.columns.as_slice(), others)
+            && some_key_has(target.keys.as_slice(), others)
+    }
+}
+
+fn some_key_has(keys: &[Key], columns: &[u32]) -> bool
+    ensures { result ≡ list_any (are_columns_of columns.now) keys.now }
+{
+    keys.iter().any(|k| k.has_columns(columns))
+}
+
+fn are_paired(table: &Table, target: &Table, columns: &[u32], others: &[u32]) -> bool
+    ensures { result ≡ are_paired table.now target.now columns.now others.now }
+{
+    columns.len() == others.len() && pairs_go_together(table, target, columns, others)
+}
+
+fn pairs_go_together(table: &Table, target: &Table, columns: &[u32], others: &[u32]) -> bool
+    ensures { result ≡ list_all (λ pair. are_of_one_kind (column_kind table.now pair.0) (column_kind target.now pair.1)) (zip columns.now others.now) }
+{
+    columns.iter().zip(others).all(|(c, o)| one_kind(table.column_kind(*c), target.column_kind(*o)))
+}
+
+impl Table {
+    /// Whether this is right as the table of its number.
+    fn fits(&self, tables: &[Table], number: u32) -> bool
+        ensures { result ≡ is_table tables.now number self.now }
+    {
+        are_columns(self.columns.as_slice())
+            && self.has_keys()
+            && checks_fit(self.checks.as_slice(), tables, number)
+            && self.has_foreign_keys(tables)
+    }
+
+    fn has_keys(&self) -> bool
+        ensures { result ≡ are_keys self.now self.now.keys }
+    {
+        let keys = self.keys.as_slice();
+        let count = self.columns.as_slice().len();
+        keys.len() <= 1_000 && keys_are_below(keys, count)
+    }
+
+    fn has_foreign_keys(&self, tables: &[Table]) -> bool
+        ensures { result ≡ are_foreign_keys tables.now self.now self.now.foreign }
+    {
+        let keys = self.foreign.as_slice();
+        keys.len() <= 1_000 && foreign_keys_fit(keys, tables, self)
+    }
+}
+
+fn checks_fit(checks: &[Cond], tables: &[Table], number: u32) -> bool
+    ensures { result ≡ are_checks tables.now number checks.now }
+{
+    checks.len() <= 1_000 && each_check_fits(checks, tables, number)
+}
+
+fn each_check_fits(checks: &[Cond], tables: &[Table], number: u32) -> bool
+    ensures { result ≡ list_all (check_fits tables.now number) checks.now }
+{
+    checks.iter().all(|c| c.fits_check(tables, number))
+}
+
+fn keys_are_below(keys: &[Key], count: usize) -> bool
+    ensures { result ≡ list_all (λ k. list_all (λ column. nat_lt column count) k.columns) keys.now }
+{
+    keys.iter().all(|k| k.is_below(count))
+}
+
+fn foreign_keys_fit(keys: &[ForeignKey], tables: &[Table], table: &Table) -> bool
+    ensures { result ≡ list_all (λ k. refers_to table.now k (slice_get tables.now k.target)) keys.now }
+{
+    keys.iter().all(|k| k.fits(tables, table))
+}
+
+impl Table {
+    /// The kind of a column, if the table has it.
+    pub(crate) fn column_kind(&self, column: u32) -> Option<Kind>
+        ensures { result ≡ column_kind self.now column }
+    {
+        match self.columns.as_slice().get(column as usize) {
+            Some(found) => Some(found.domain.kind()),
+            None => None,
+        }
     }
 }
 
@@ -129,64 +360,201 @@ mod tests {
     use std::alloc::Global;
     use std::test::Fail;
 
-    fn columns_of(alloc: Global, count: u32, domain: Domain) -> Result<Items<Column>, NoMemory> {
-        let mut columns = Items::new(alloc);
-        for _ in 0..count {
-            columns.push(Column {
-                name: Str::from_str(alloc, "c")?,
-                domain,
-            })?;
+    const SMALL: Domain = Domain::Number {
+        least: -32768,
+        greatest: 32767,
+        unit: Unit::Whole,
+    };
+
+    const INTEGER: Domain = Domain::Number {
+        least: -2147483648,
+        greatest: 2147483647,
+        unit: Unit::Whole,
+    };
+
+    const TEXT: Domain = Domain::Text { length: 9 };
+
+    fn number(least: i64, greatest: i64) -> Domain {
+        Domain::Number {
+            least,
+            greatest,
+            unit: Unit::Whole,
         }
-        Ok(columns)
     }
 
-    fn schema_of(
-        alloc: Global,
-        tables: u32,
-        columns: u32,
-        domain: Domain,
-    ) -> Result<Option<Schema>, NoMemory> {
-        let mut list = Items::new(alloc);
-        for _ in 0..tables {
-            list.push(Table {
-                name: Str::from_str(alloc, "t")?,
-                columns: columns_of(alloc, columns, domain)?,
+    fn positions(alloc: Global, from: &[u32]) -> Result<Items<u32>, NoMemory> {
+        Ok(Items::from_vec(Vec::from_slice(alloc, from)?))
+    }
+
+    fn table_of(alloc: Global, domains: &[Domain]) -> Result<Table, NoMemory> {
+        let mut columns = Items::new(alloc);
+        for domain in domains {
+            columns.push(Column {
+                name: Str::from_str(alloc, "c")?,
+                domain: *domain,
+                not_null: false,
             })?;
         }
+        Ok(Table {
+            name: Str::from_str(alloc, "t")?,
+            columns,
+            keys: Items::new(alloc),
+            checks: Items::new(alloc),
+            foreign: Items::new(alloc),
+        })
+    }
+
+    fn add_key(alloc: Global, table: &mut Table, columns: &[u32]) -> Result<(), NoMemory> {
+        table.keys.push(Key {
+            columns: positions(alloc, columns)?,
+        })
+    }
+
+    fn add_foreign(
+        alloc: Global,
+        table: &mut Table,
+        columns: &[u32],
+        target: u32,
+        target_columns: &[u32],
+    ) -> Result<(), NoMemory> {
+        table.foreign.push(ForeignKey {
+            columns: positions(alloc, columns)?,
+            target,
+            target_columns: positions(alloc, target_columns)?,
+        })
+    }
+
+    #[test]
+    fn accepts_known_domains(rt: HostRuntime) -> Result<(), Fail> {
+        let alloc = rt.alloc();
+        for (domain, accepted) in [
+            (SMALL, true),
+            (INTEGER, true),
+            (number(-9223372036854775808, 9223372036854775807), true),
+            (number(-32768, 32766), false),
+            (number(-32767, 32767), false),
+            (number(0, 65535), false),
+            (number(-32768, 2147483647), false),
+            (Domain::Text { length: 0 }, false),
+            (Domain::Text { length: 1 }, true),
+            (Domain::Text { length: 65535 }, true),
+            (Domain::Text { length: 65536 }, false),
+        ] {
+            let mut tables = Items::new(alloc);
+            tables.push(table_of(alloc, &[SMALL, domain])?)?;
+            assert_eq!(rt; Schema::new(tables).is_some(), accepted, "{domain:?}");
+        }
+        Ok(())
+    }
+
+    fn schema_of_sizes(alloc: Global, sizes: [u32; 5]) -> Result<Option<Schema>, NoMemory> {
+        let [tables, columns, keys, checks, foreign] = sizes;
+        let mut list = Items::new(alloc);
+        for _ in 1..tables {
+            list.push(table_of(alloc, &[SMALL])?)?;
+        }
+        let mut domains = Vec::new(alloc);
+        for _ in 0..columns {
+            domains.push(SMALL)?;
+        }
+        let mut last = table_of(alloc, &domains)?;
+        for _ in 0..keys {
+            add_key(alloc, &mut last, &[0])?;
+        }
+        for _ in 0..checks {
+            last.checks.push(Cond::True)?;
+        }
+        for _ in 0..foreign {
+            add_foreign(alloc, &mut last, &[0], tables.saturating_sub(1), &[0])?;
+        }
+        list.push(last)?;
         Ok(Schema::new(list))
     }
 
     #[test]
-    fn accepts_known_ranges_and_sizes(rt: HostRuntime) -> Result<(), Fail> {
+    fn accepts_sizes_within_the_limits(rt: HostRuntime) -> Result<(), Fail> {
         let alloc = rt.alloc();
-        for (tables, columns, least, greatest, accepted) in [
-            (1, 1, -32768, 32767, true),
-            (1, 1, -2147483648, 2147483647, true),
-            (1, 1, -9223372036854775808, 9223372036854775807, true),
-            (1, 1, -32768, 32766, false),
-            (1, 1, -32767, 32767, false),
-            (1, 1, 0, 65535, false),
-            (1, 1, -32768, 2147483647, false),
-            (1, 64, -32768, 32767, true),
-            (1, 65, -32768, 32767, false),
-            (200, 1, -32768, 32767, true),
-            (201, 1, -32768, 32767, false),
-            (0, 0, -32768, 32767, true),
+        for (sizes, accepted) in [
+            ([1, 0, 0, 0, 0], true),
+            ([200, 1, 1, 1, 1], true),
+            ([201, 1, 1, 1, 1], false),
+            ([1, 64, 1, 1, 1], true),
+            ([1, 65, 1, 1, 1], false),
+            ([1, 1, 1000, 1, 1], true),
+            ([1, 1, 1001, 1, 1], false),
+            ([1, 1, 1, 1000, 1], true),
+            ([1, 1, 1, 1001, 1], false),
+            ([1, 1, 1, 1, 1000], true),
+            ([1, 1, 1, 1, 1001], false),
         ] {
-            let domain = Domain::Number {
-                least,
-                greatest,
-                unit: Unit::Whole,
-            };
-            let schema = schema_of(alloc, tables, columns, domain)?;
-            assert_eq!(rt;
-                schema.is_some(),
-                accepted,
-                "{tables} tables of {columns} columns from {least} to {greatest}"
-            );
+            let schema = schema_of_sizes(alloc, sizes)?;
+            assert_eq!(rt; schema.is_some(), accepted, "{sizes:?}");
             if let Some(schema) = schema {
-                assert_eq!(rt; schema.tables().as_slice().len(), tables as usize);
+                assert_eq!(rt; schema.tables().as_slice().len(), sizes[0] as usize);
             }
+        }
+        Ok(())
+    }
+
+    #[test]
+    fn accepts_keys_of_existing_columns(rt: HostRuntime) -> Result<(), Fail> {
+        let alloc = rt.alloc();
+        for (key, accepted) in [
+            (&[2][..], true),
+            (&[3], false),
+            (&[0, 1], true),
+            (&[1, 3], false),
+        ] {
+            let mut table = table_of(alloc, &[SMALL, TEXT, INTEGER])?;
+            add_key(alloc, &mut table, key)?;
+            let mut tables = Items::new(alloc);
+            tables.push(table)?;
+            assert_eq!(rt; Schema::new(tables).is_some(), accepted, "{key:?}");
+        }
+        Ok(())
+    }
+
+    #[test]
+    fn accepts_foreign_keys_to_keys(rt: HostRuntime) -> Result<(), Fail> {
+        let alloc = rt.alloc();
+        let cases: [(&[u32], u32, &[u32], bool); 15] = [
+            (&[2], 0, &[0], true),
+            // a SMALLINT beside an INTEGER
+            (&[0], 0, &[0], true),
+            // a text beside a number
+            (&[1], 0, &[0], false),
+            (&[3], 0, &[0], false),
+            (&[2], 0, &[4], false),
+            // to its own table, and to none
+            (&[2], 1, &[0], true),
+            (&[2], 2, &[0], false),
+            // a key in either order, but each column beside one of its kind
+            (&[0, 1], 0, &[1, 2], true),
+            (&[1, 0], 0, &[2, 1], true),
+            (&[1, 0], 0, &[1, 2], false),
+            // a part of a key, and lists that differ in length
+            (&[0], 0, &[1], false),
+            (&[0, 1], 0, &[1], false),
+            (&[0], 0, &[1, 2], false),
+            // not the same set, and more columns than the key
+            (&[0, 0], 0, &[1, 1], false),
+            (&[0, 1, 0], 0, &[1, 2, 1], false),
+        ];
+        for (columns, target, target_columns, accepted) in cases {
+            let mut first = table_of(alloc, &[INTEGER, SMALL, TEXT, TEXT])?;
+            add_key(alloc, &mut first, &[0])?;
+            add_key(alloc, &mut first, &[1, 2])?;
+            let mut second = table_of(alloc, &[SMALL, TEXT, INTEGER])?;
+            add_key(alloc, &mut second, &[0])?;
+            add_foreign(alloc, &mut second, columns, target, target_columns)?;
+            let mut tables = Items::new(alloc);
+            tables.push(first)?;
+            tables.push(second)?;
+            assert_eq!(rt;
+                Schema::new(tables).is_some(),
+                accepted,
+                "{columns:?} to {target} {target_columns:?}"
+            );
         }
         Ok(())
     }

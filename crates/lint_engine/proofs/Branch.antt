@@ -9,8 +9,8 @@ use Rattle.lint_core.specs.declared.certificate.Step.{Step}
 use Rattle.lint_core.specs.declared.certificate.Step.TheVariants as step
 use Rattle.lint_core.specs.declared.certificate.SumEdge.{SumEdge}
 use Rattle.lint_core.specs.declared.certificate.SumEdge.TheVariants as edge
-use Rattle.lint_core.specs.declared.condition.Op.{Op}
-use Rattle.lint_core.specs.declared.condition.Op.TheVariants.{Eq, Lt, Le, Gt, Ge}
+use Rattle.lint_tables.specs.declared.op.Op.{Op}
+use Rattle.lint_tables.specs.declared.op.Op.TheVariants.{Eq, Ne, Lt, Le, Gt, Ge}
 use Rattle.lint_core.specs.declared.formula.Atom.TheVariants as atom
 use Rattle.lint_core.specs.declared.formula.Side.{Side}
 use Rattle.lint_core.specs.declared.formula.Side.TheVariants as side
@@ -18,7 +18,7 @@ use Rattle.lint_core.specs.declared.formula.Formula.{Formula}
 use Rattle.lint_core.specs.declared.formula.Formula.TheVariants as f
 use Rattle.lint_core.specs.declared.schema.Column.{Column}
 use Rattle.lint_core.specs.declared.schema.Domain.{Domain}
-use Rattle.lint_core.specs.declared.schema.Domain.TheVariants.{Number}
+use Rattle.lint_core.specs.declared.schema.Domain.TheVariants.{Number, Text}
 use Rattle.lint_core.specs.declared.schema.Table.{Table}
 use Rattle.lint_core.specs.Translation.{le, comparison}
 use Rattle.lint_core.specs.Certificate.{Fact, Branch, side_at, bound_of, domain_at, branches_after, first_branch, accepts, are_closed, is_contradiction}
@@ -60,6 +60,7 @@ fact_of c = at_row (formula_of c.column c.literal c.op)
 -- the parts of an equation
 abbrev pub part_facts_of : ℕ → ℤ → Op → List Fact
 part_facts_of column literal Eq = at_row (le (side.Cell 0 column) side.Zero (literal -ℤ pos 0)) ∷ at_row (le side.Zero (side.Cell 0 column) (pos 0 -ℤ literal)) ∷ []
+part_facts_of column literal Ne = []
 part_facts_of column literal Lt = []
 part_facts_of column literal Le = []
 part_facts_of column literal Gt = []
@@ -96,6 +97,7 @@ module _ (schema : List Table) (tables : List ℕ) where
       branches_after schema (equation_step fact op ++ rest) (with_facts facts ∷ []) ≡ branches_after schema rest (with_facts (facts ++ part_facts_of column literal op) ∷ [])
   after_equation Eq column literal fact facts rest at =
       rw (at, f.outs-And (le (side.Cell 0 column) side.Zero (literal -ℤ pos 0) ∷ le side.Zero (side.Cell 0 column) (pos 0 -ℤ literal) ∷ [])) refl
+  after_equation Ne column literal fact facts rest at = ap (λ fs. branches_after schema rest (with_facts fs ∷ [])) (sym (append_nil facts))
   after_equation Lt column literal fact facts rest at = ap (λ fs. branches_after schema rest (with_facts fs ∷ [])) (sym (append_nil facts))
   after_equation Le column literal fact facts rest at = ap (λ fs. branches_after schema rest (with_facts fs ∷ [])) (sym (append_nil facts))
   after_equation Gt column literal fact facts rest at = ap (λ fs. branches_after schema rest (with_facts fs ∷ [])) (sym (append_nil facts))
@@ -138,6 +140,7 @@ module _ (schema : List Table) (branch : Branch) where
     at_most_stated parts column (literal -ℤ pos 0) literal stand.0 (omega (arith, ints)),
     (at_least_stated (parts + 1) column (pos 0 -ℤ literal) literal stand.1.0 (omega (arith, ints)), tt),
   )
+  comparison_stated Ne column literal fact parts at stand = tt
   comparison_stated Lt column literal fact parts at stand = (at_most_stated fact column (literal -ℤ pos 0 -ℤ pos 1) (literal -ℤ pos 1) at (omega (arith, ints)), tt)
   comparison_stated Le column literal fact parts at stand = (at_most_stated fact column (literal -ℤ pos 0) literal at (omega (arith, ints)), tt)
   comparison_stated Gt column literal fact parts at stand = (at_least_stated fact column (pos 0 -ℤ literal -ℤ pos 1) (literal +ℤ pos 1) at (omega (arith, ints)), tt)
@@ -148,6 +151,7 @@ module _ (schema : List Table) (branch : Branch) where
   split_parts Eq column literal parts more stand =
       let next : parts + 1 + 1 ≡ parts + 2 = omega arith in
       ((stand.0, (stand.1.0, tt)), subst (λ (n : ℕ). StandFrom branch.facts n more) next stand.1.1)
+  split_parts Ne column literal parts more stand = (tt, stand)
   split_parts Lt column literal parts more stand = (tt, stand)
   split_parts Le column literal parts more stand = (tt, stand)
   split_parts Gt column literal parts more stand = (tt, stand)
@@ -165,6 +169,7 @@ module _ (schema : List Table) (branch : Branch) where
     record { bound = rw at (ap (λ r. Some (record { left = side.Zero; right = side_of_variable r; most = neg_ℤ least })) (sym (add-one column))) },
     (record { bound = rw at (ap (λ l. Some (record { left = side_of_variable l; right = side.Zero; most = greatest })) (sym (add-one column))) }, tt),
   )
+  domain_stated column (Text length) at = tt
 
   -- the columns are the table's from this number on
   abbrev pub ColumnsStand : ℕ → List Column → Type 0

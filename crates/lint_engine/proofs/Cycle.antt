@@ -7,11 +7,11 @@ use Rattle.std.proofs.lemmas.List.Elements.{recursion_from_All}
 use Rattle.std.proofs.lemmas.List.{length-map}
 use Rattle.std.specs.Prelude.{nat_eq}
 use Rattle.std.specs.List.{AllByRecursion, IsDistinct}
-use Rattle.lint_core.specs.declared.condition.Op.{Op}
-use Rattle.lint_core.specs.declared.condition.Op.TheVariants.{Eq, Lt, Le, Gt, Ge}
+use Rattle.lint_tables.specs.declared.op.Op.{Op}
+use Rattle.lint_tables.specs.declared.op.Op.TheVariants.{Eq, Ne, Lt, Le, Gt, Ge}
 use Rattle.lint_core.specs.declared.schema.Column.{Column}
 use Rattle.lint_core.specs.declared.schema.Domain.{Domain}
-use Rattle.lint_core.specs.declared.schema.Domain.TheVariants.{Number}
+use Rattle.lint_core.specs.declared.schema.Domain.TheVariants.{Number, Text}
 use Rattle.lint_core.specs.declared.schema.Table.{Table}
 use Rattle.lint_core.specs.Schema.{is_schema}
 use Rattle.lint_core.specs.Certificate.{Branch, is_contradiction}
@@ -36,6 +36,7 @@ next_not_zero n is = omega arith
 
 domain_one_zero : (column : ℕ) (d : Domain) → AllByRecursion OneZero (of_domain column d)
 domain_one_zero column (Number least greatest unit) = (inl (refl, next_not_zero column), (inr (next_not_zero column, refl), tt))
+domain_one_zero column (Text length) = tt
 
 domains_one_zero : (column : ℕ) (cs : List Column) → AllByRecursion OneZero (of_domains column cs)
 domains_one_zero column [] = tt
@@ -43,6 +44,7 @@ domains_one_zero column (c ∷ cs) = all_append OneZero (of_domain column c.doma
 
 comparison_one_zero : (op : Op) (fact parts column : ℕ) (literal : ℤ) → AllByRecursion OneZero (of_comparison fact parts column literal op)
 comparison_one_zero Eq fact parts column literal = (inr (next_not_zero column, refl), (inl (refl, next_not_zero column), tt))
+comparison_one_zero Ne fact parts column literal = tt
 comparison_one_zero Lt fact parts column literal = (inr (next_not_zero column, refl), tt)
 comparison_one_zero Le fact parts column literal = (inr (next_not_zero column, refl), tt)
 comparison_one_zero Gt fact parts column literal = (inl (refl, next_not_zero column), tt)

@@ -7,8 +7,9 @@ use Rattle.std.proofs.lemmas.Option.{same_Some, none-some}
 use Rattle.std.specs.Prelude.{Some, slice_get}
 use Rattle.std.specs.List.{list_all}
 use Rattle.std.specs.Ordering.{int_eq}
+use Rattle.lint_core.specs.declared.schema.Unit.TheVariants.{Whole}
 use Rattle.lint_core.specs.declared.schema.Domain.{Domain}
-use Rattle.lint_core.specs.declared.schema.Domain.TheVariants.{Number}
+use Rattle.lint_core.specs.declared.schema.Domain.TheVariants.{Number, Text}
 use Rattle.lint_core.specs.Schema.{is_domain, is_signed_range}
 use Rattle.lint_engine.specs.Plan.{IsNumber}
 
@@ -46,9 +47,11 @@ domain_numbers least greatest known =
 -- the bounds of a domain are in order
 abbrev pub IsOrderly : Domain → Type 0
 IsOrderly (Number least greatest unit) = least ≤ℤ greatest
+IsOrderly (Text length) = Unit {0}
 
 pub domain_orderly : (d : Domain) → is_domain d ≡ true → IsOrderly d
-domain_orderly (Number least greatest unit) known = (domain_range least greatest known).order
+domain_orderly (Number least greatest Whole) known = (domain_range least greatest known).order
+domain_orderly (Text length) known = tt
 
 pub all_at : {X : Type 0} (p : X → Bool) (xs : List X) (k : ℕ) (x : X) → list_all p xs ≡ true → slice_get xs k ≡ Some x → p x ≡ true
 all_at p [] k x all at = absurd (none-some x at)

@@ -1,5 +1,5 @@
 -- What the judge knows when it has read a query of the first form, and why each of its answers is right.
-use Rattle.std.proofs.Common.{◌≡◌, ◌∙◌, sym, ap, refl, subst, ℕ, ◌+◌, ◌*◌, ◌^◌, ◌<◌, ◌≤◌, length, ℤ, pos, neg_ℤ, ◌+ℤ◌, ◌-ℤ◌, ◌≤ℤ◌, true, List, [], ◌∷◌, get_or, arith}
+use Rattle.std.proofs.Common.{◌≡◌, ◌∙◌, sym, ap, subst, ℕ, ◌+◌, ◌*◌, ◌^◌, ◌<◌, ◌≤◌, length, ℤ, pos, neg_ℤ, ◌+ℤ◌, ◌-ℤ◌, ◌≤ℤ◌, true, List, [], ◌∷◌, get_or, arith}
 use Rattle.std.proofs.lemmas.Int.{ints}
 use Rattle.std.proofs.lemmas.Bool.{and_parts}
 use Rattle.std.proofs.lemmas.List.{length-append}
@@ -7,16 +7,17 @@ use Rattle.std.proofs.lemmas.List.Elements.{recursion_from_All}
 use Rattle.std.proofs.lemmas.Option.{get_or_from_slice_get}
 use Rattle.std.specs.Prelude.{Some, slice_get}
 use Rattle.std.specs.List.{AllByRecursion, list_all}
-use Rattle.lint_core.specs.declared.condition.Op.{Op}
-use Rattle.lint_core.specs.declared.condition.Op.TheVariants.{Eq, Lt, Le, Gt, Ge}
-use Rattle.lint_core.specs.declared.query.Entry.{Entry}
+use Rattle.lint_tables.specs.declared.op.Op.{Op}
+use Rattle.lint_tables.specs.declared.op.Op.TheVariants.{Eq, Ne, Lt, Le, Gt, Ge}
+use Rattle.lint_core.specs.declared.condition.Entry.{Entry}
 use Rattle.lint_core.specs.declared.query.Query.{Query}
 use Rattle.lint_core.specs.declared.schema.Column.{Column}
+use Rattle.lint_core.specs.declared.schema.Unit.TheVariants.{Whole}
 use Rattle.lint_core.specs.declared.schema.Domain.{Domain}
-use Rattle.lint_core.specs.declared.schema.Domain.TheVariants.{Number}
+use Rattle.lint_core.specs.declared.schema.Domain.TheVariants.{Number, Text}
 use Rattle.lint_core.specs.declared.schema.Table.{Table}
 use Rattle.lint_core.specs.Schema.{is_schema, is_domain}
-use Rattle.lint_core.specs.FirstForm.{Conjunct, where_cond, IsFirstForm}
+use Rattle.lint_core.specs.FirstForm.{Conjunct, IsFirstForm}
 use Rattle.diff_bounds.specs.declared.system.Edge.{Edge}
 use Rattle.diff_bounds.specs.System.{IsAmong, IsModerate}
 use Rattle.lint_engine.specs.declared.comparison.Comparison.{Comparison}
@@ -31,13 +32,12 @@ use Rattle.lint_engine.proofs.Reading.{comparisons_of, reads_all}
 pub record IsRead (schema : List Table) (query : Query) (entry : Entry) (table : Table) (columns : List Column) (comparisons : List Comparison) : Type 0 where
   pub known : is_schema schema ≡ true
   pub one_entry : query.block.entries ≡ entry ∷ []
+  pub first_table : entry.table ≡ 0
   pub of_table : slice_get schema entry.table ≡ Some table
   pub columns_are : columns ≡ table.columns
   pub conjuncts : List Conjunct
-  pub filter : query.block.cond ≡ where_cond conjuncts
+  pub form : IsFirstForm schema query table conjuncts
   pub comparisons_are : comparisons ≡ comparisons_of conjuncts
-  pub some : 0 < length conjuncts
-  pub few : length conjuncts ≤ 4096
   pub columns_exist : AllByRecursion (λ (c : Conjunct). c.column < length table.columns) conjuncts
 
 pub is_read : (schema tables : List Table) (query : Query) (entries : List Entry) (entry : Entry) (table : Table) (columns : List Column) (comparisons : List Comparison) →
@@ -46,18 +46,18 @@ pub is_read : (schema tables : List Table) (query : Query) (entries : List Entry
 is_read schema tables query entries entry table columns comparisons form known tables_are entries_are entry_is table_is columns_are comparisons_are =
     let first = form.2.one_entry in
     let entry_same : entry ≡ first.0 = entry_is ∙ (ap (λ (es : List Entry). get_or es 0 entry) (entries_are ∙ first.1)) in
-    let of_form : slice_get schema entry.table ≡ Some form.0 = ap (λ (e : Entry). slice_get schema e.table) entry_same ∙ first.2 in
+    let zero_is : entry.table ≡ 0 = ap (λ (e : Entry). e.table) entry_same ∙ first.2 in
+    let of_form : slice_get schema entry.table ≡ Some form.0 = ap (slice_get schema) zero_is ∙ ap (λ (ts : List Table). slice_get ts 0) form.2.one_table in
     let table_same : table ≡ form.0 = table_is ∙ (ap (λ (e : Entry). get_or tables e.table table) (sym entry_is) ∙ (ap (λ (ts : List Table). get_or ts entry.table table) tables_are ∙ get_or_from_slice_get schema entry.table form.0 table of_form)) in
     record {
       known = known;
       one_entry = first.1 ∙ ap (λ (e : Entry). e ∷ []) (sym entry_same);
+      first_table = zero_is;
       of_table = of_form ∙ ap (λ (t : Table). Some t) (sym table_same);
       columns_are = columns_are ∙ ap (λ (t : Table). t.columns) (sym table_is);
       conjuncts = form.1;
-      filter = form.2.filter;
+      form = subst (λ (t : Table). IsFirstForm schema query t form.1) (sym table_same) form.2;
       comparisons_are = comparisons_are ∙ (ap comparisons_in form.2.filter ∙ reads_all form.1);
-      some = form.2.some;
-      few = form.2.few;
       columns_exist = subst (λ (t : Table). AllByRecursion (λ (c : Conjunct). c.column < length t.columns) form.1) (sym table_same) (recursion_from_All (λ (c : Conjunct). c.column < length form.0.columns) form.1 form.2.columns_exist);
     }
 
@@ -85,6 +85,7 @@ at_least_among variables column most within = record { left = omega arith; right
 
 domain_among : (variables column : ℕ) (d : Domain) → column + 1 < variables → AllByRecursion (EdgeIsAmong variables) (of_domain column d)
 domain_among variables column (Number least greatest unit) within = (at_least_among variables column (neg_ℤ least) within, (at_most_among variables column greatest within, tt))
+domain_among variables column (Text length) within = tt
 
 pub domains_among : (variables column : ℕ) (cs : List Column) → column + length cs + 1 ≤ variables → AllByRecursion (EdgeIsAmong variables) (of_domains column cs)
 domains_among variables column [] within = tt
@@ -94,6 +95,7 @@ domains_among variables column (c ∷ cs) within =
 
 comparison_among : (op : Op) (variables fact parts column : ℕ) (literal : ℤ) → column + 1 < variables → AllByRecursion (EdgeIsAmong variables) (of_comparison fact parts column literal op)
 comparison_among Eq variables fact parts column literal within = (at_most_among variables column literal within, (at_least_among variables column (neg_ℤ literal) within, tt))
+comparison_among Ne variables fact parts column literal within = tt
 comparison_among Lt variables fact parts column literal within = (at_most_among variables column (literal -ℤ pos 1) within, tt)
 comparison_among Le variables fact parts column literal within = (at_most_among variables column literal within, tt)
 comparison_among Gt variables fact parts column literal within = (at_least_among variables column (neg_ℤ (literal +ℤ pos 1)) within, tt)
@@ -110,7 +112,8 @@ moderate : (l r : ℕ) (most : ℤ) → (neg_ℤ (pos (2 ^ 64))) ≤ℤ most →
 moderate l r most low high = record { low = omega (arith, ints); high = omega (arith, ints) }
 
 domain_moderate : (column : ℕ) (d : Domain) → is_domain d ≡ true → AllByRecursion EdgeIsModerate (of_domain column d)
-domain_moderate column (Number least greatest unit) known =
+domain_moderate column (Text length) known = tt
+domain_moderate column (Number least greatest Whole) known =
     let both = domain_numbers least greatest known in
     let a : IsNumber least = both.0 in
     let b : IsNumber greatest = both.1 in
@@ -125,6 +128,7 @@ domains_moderate column (c ∷ cs) known =
 comparison_moderate : (op : Op) (fact parts column : ℕ) (literal : ℤ) → IsNumber literal → AllByRecursion EdgeIsModerate (of_comparison fact parts column literal op)
 comparison_moderate Eq fact parts column literal number =
     (moderate (column + 1) 0 literal (omega (arith, ints)) (omega (arith, ints)), (moderate 0 (column + 1) (neg_ℤ literal) (omega (arith, ints)) (omega (arith, ints)), tt))
+comparison_moderate Ne fact parts column literal number = tt
 comparison_moderate Lt fact parts column literal number = (moderate (column + 1) 0 (literal -ℤ pos 1) (omega (arith, ints)) (omega (arith, ints)), tt)
 comparison_moderate Le fact parts column literal number = (moderate (column + 1) 0 literal (omega (arith, ints)) (omega (arith, ints)), tt)
 comparison_moderate Gt fact parts column literal number = (moderate 0 (column + 1) (neg_ℤ (literal +ℤ pos 1)) (omega (arith, ints)) (omega (arith, ints)), tt)
@@ -136,16 +140,18 @@ comparisons_moderate fact parts (c ∷ cs) numbers =
     all_append EdgeIsModerate (of_comparison fact parts c.column c.literal c.op) (of_comparisons (fact + 1) (parts_after parts c.op) cs)
     (comparison_moderate c.op fact parts c.column c.literal numbers.0) (comparisons_moderate (fact + 1) (parts_after parts c.op) cs numbers.1)
 
-domain_few : (column : ℕ) (d : Domain) → length (of_domain column d) ≡ 2
-domain_few column (Number least greatest unit) = refl
+domain_few : (column : ℕ) (d : Domain) → length (of_domain column d) ≤ 2
+domain_few column (Number least greatest unit) = omega arith
+domain_few column (Text length) = omega arith
 
-pub domains_few : (column : ℕ) (cs : List Column) → length (of_domains column cs) ≡ 2 * length cs
-domains_few column [] = refl
+pub domains_few : (column : ℕ) (cs : List Column) → length (of_domains column cs) ≤ 2 * length cs
+domains_few column [] = omega arith
 domains_few column (c ∷ cs) =
     omega (arith, length-append (of_domain column c.domain) (of_domains (column + 1) cs), domain_few column c.domain, domains_few (column + 1) cs)
 
 comparison_few : (op : Op) (fact parts column : ℕ) (literal : ℤ) → length (of_comparison fact parts column literal op) ≤ 2
 comparison_few Eq fact parts column literal = omega arith
+comparison_few Ne fact parts column literal = omega arith
 comparison_few Lt fact parts column literal = omega arith
 comparison_few Le fact parts column literal = omega arith
 comparison_few Gt fact parts column literal = omega arith

@@ -1,4 +1,5 @@
 pub mod Domains
+pub mod Known
 pub mod Stated
 pub mod Ring
 pub mod Branch
@@ -8,4 +9,3 @@ pub mod Refuted
 pub mod Cycle
 pub mod Judged
 pub mod Right
-pub mod Small

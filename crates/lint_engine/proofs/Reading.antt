@@ -1,17 +1,18 @@
 -- What the comparisons of a query of the first form are, and which sentence they make.
 use Rattle.std.proofs.Common.{◌≡◌, ◌∙◌, ap, refl, ℕ, pos, List, [], ◌∷◌, map}
 use Rattle.lint_core.specs.declared.condition.Cond.{Cond, out-Cond, fold_out-Cond, map-Cond}
+use Rattle.lint_core.specs.declared.condition.Block.{Block, fold-Block}
 use Rattle.lint_core.specs.declared.condition.Cond.TheOpen.{Cond-F}
 use Rattle.lint_core.specs.declared.condition.Cond.TheVariants as cond
 use Rattle.lint_core.specs.declared.condition.Term.TheVariants as term
 use Rattle.lint_core.specs.declared.schema.Unit.TheVariants.{Whole}
 use Rattle.lint_core.specs.declared.formula.Formula.{Formula}
 use Rattle.lint_core.specs.declared.formula.Formula.TheVariants as f
-use Rattle.lint_core.specs.declared.query.Entry.{Entry}
+use Rattle.lint_core.specs.declared.condition.Entry.{Entry}
 use Rattle.lint_core.specs.declared.query.Query.{Query}
 use Rattle.lint_core.specs.declared.query.Question.TheVariants.{Empty}
 use Rattle.lint_core.specs.FirstForm.{Conjunct, conjunct_cond, where_cond}
-use Rattle.lint_core.specs.Translation.{is_true_step, is_true_formula, counter_sentence}
+use Rattle.lint_core.specs.Translation.{is_true_step, block_step, is_true_formula, counter_sentence}
 use Rattle.lint_engine.specs.declared.comparison.Comparison.{Comparison}
 use Rattle.lint_engine.specs.Plan.{comparisons_among, comparisons_layer, comparisons_in}
 use Rattle.lint_engine.proofs.Branch.{fact_of, formula_of_all, sentence_of}
@@ -22,7 +23,7 @@ comparison_of_conjunct c = record { column = c.column; op = c.op; literal = c.li
 abbrev pub comparisons_of : List Conjunct → List Comparison
 comparisons_of cs = map comparison_of_conjunct cs
 
-abbrev pub layer_of : Conjunct → Cond-F Cond
+abbrev pub layer_of : Conjunct → Cond-F Cond Block
 layer_of c = Cond-F.Compare c.op (term.Cell 0 0 c.column (pos 0)) (term.Number c.literal Whole) c.span
 
 pub outs_conjunct : (c : Conjunct) → out-Cond (conjunct_cond c) ≡ layer_of c
@@ -41,22 +42,25 @@ reads_all (c ∷ next ∷ cs) = ap comparisons_layer (cond.outs-And (map conjunc
 abbrev variables : List (List ℕ)
 variables = (0 ∷ []) ∷ []
 
-formula_out : (c : Cond) → is_true_formula variables c ≡ is_true_step variables (map-Cond Cond Formula (is_true_formula variables) (out-Cond c))
-formula_out c = fold_out-Cond Formula (is_true_step variables) c
+abbrev layer_formula : Cond-F Cond Block → Formula
+layer_formula layer = is_true_step variables (map-Cond Cond Block Formula Formula (is_true_formula variables) (fold-Block Formula Formula (is_true_step variables) (block_step variables)) layer)
+
+formula_out : (c : Cond) → is_true_formula variables c ≡ layer_formula (out-Cond c)
+formula_out c = fold_out-Cond Formula Formula (is_true_step variables) (block_step variables) c
 
 formula_of_conjunct : (c : Conjunct) → is_true_formula variables (conjunct_cond c) ≡ (fact_of (comparison_of_conjunct c)).formula
-formula_of_conjunct c = formula_out (conjunct_cond c) ∙ ap (λ l. is_true_step variables (map-Cond Cond Formula (is_true_formula variables) l)) (outs_conjunct c)
+formula_of_conjunct c = formula_out (conjunct_cond c) ∙ ap layer_formula (outs_conjunct c)
 
 formulas_of_conjuncts : (cs : List Conjunct) → map (is_true_formula variables) (map conjunct_cond cs) ≡ map (λ (x : Comparison). (fact_of x).formula) (comparisons_of cs)
 formulas_of_conjuncts [] = refl
 formulas_of_conjuncts (c ∷ cs) = rw (formula_of_conjunct c) (ap (λ fs. (fact_of (comparison_of_conjunct c)).formula ∷ fs) (formulas_of_conjuncts cs))
 
 formula_of_where : (cs : List Conjunct) → is_true_formula variables (where_cond cs) ≡ formula_of_all (comparisons_of cs)
-formula_of_where [] = formula_out (cond.And []) ∙ ap (λ l. is_true_step variables (map-Cond Cond Formula (is_true_formula variables) l)) (cond.outs-And [])
+formula_of_where [] = formula_out (cond.And []) ∙ ap layer_formula (cond.outs-And [])
 formula_of_where (c ∷ []) = formula_of_conjunct c
 formula_of_where (c ∷ next ∷ cs) =
     formula_out (where_cond (c ∷ next ∷ cs))
-    ∙ (ap (λ l. is_true_step variables (map-Cond Cond Formula (is_true_formula variables) l)) (cond.outs-And (map conjunct_cond (c ∷ next ∷ cs)))
+    ∙ (ap layer_formula (cond.outs-And (map conjunct_cond (c ∷ next ∷ cs)))
     ∙ ap (λ fs. f.And fs) (formulas_of_conjuncts (c ∷ next ∷ cs)))
 
 -- the sentence of the question

@@ -1,22 +1,22 @@
 -- Two inequalities that close a ring with a negative sum contradict each other.
 use Rattle.std.proofs.Common.{◌≡◌, ◌∙◌, sym, ap, refl, subst, ℕ, length, pos, ◌+ℤ◌, ◌<ℤ◌, ◌≤ℤ◌, neg_ℤ, true, List, [], ◌∷◌, arith}
 use Rattle.std.proofs.lemmas.Int.{ints}
-use Rattle.std.proofs.lemmas.Bool.{and_from, and_parts, eq-eqb}
+use Rattle.std.proofs.lemmas.Bool.{and_from, eq-eqb}
 use Rattle.std.proofs.lemmas.Option.{same_Some, none-some, option_and_then_some}
-use Rattle.std.specs.Prelude.{Option, Some, None, slice_get, option_and_then, nat_eq, nat_le, int_lt}
-use Rattle.std.specs.List.{list_all}
+use Rattle.std.specs.Prelude.{Option, Some, None, slice_get, option_and_then, nat_eq, int_lt}
 use Rattle.lint_core.specs.declared.certificate.SumEdge.{SumEdge}
 use Rattle.lint_core.specs.declared.certificate.SumEdge.TheVariants as edge
 use Rattle.lint_core.specs.declared.formula.Side.{Side}
 use Rattle.lint_core.specs.declared.formula.Side.TheVariants as side
 use Rattle.lint_core.specs.declared.schema.Domain.{Domain}
-use Rattle.lint_core.specs.declared.schema.Domain.TheVariants.{Number}
+use Rattle.lint_core.specs.declared.schema.Domain.TheVariants.{Number, Text}
 use Rattle.lint_core.specs.declared.schema.Column.{Column}
 use Rattle.lint_core.specs.declared.schema.Table.{Table}
-use Rattle.lint_core.specs.Schema.{is_schema, is_table, is_domain}
+use Rattle.lint_core.specs.Schema.{is_schema, is_domain}
 use Rattle.lint_core.specs.Certificate.{Branch, Bound, bound_of, bounds_of, domain_at, low_bound, high_bound, is_same_side, is_guarded, is_negative_ring, is_contradiction}
 use Rattle.lint_engine.specs.declared.inequality.Inequality.{Inequality}
 use Rattle.lint_engine.proofs.Domains.{IsOrderly, domain_orderly, all_at}
+use Rattle.lint_engine.proofs.Known.{table_known}
 use Rattle.lint_engine.proofs.Stated.{side_of_variable, IsStated}
 
 pub same_side : (a : Side) → is_same_side a a ≡ true
@@ -30,23 +30,23 @@ domain_at_orderly schema branch row column known d at =
     (λ t t_at after. option_and_then_some (λ (table : Table). option_and_then (λ (c : Column). Some c.domain) (slice_get table.columns column)) (slice_get schema t) d after
     (λ table table_at after. option_and_then_some (λ (c : Column). Some c.domain) (slice_get table.columns column) d after
     (λ c c_at is.
-    let tables : list_all is_table schema ≡ true = (and_parts (nat_le (length schema) 200) (list_all is_table schema) known).1 in
-    let whole : is_table table ≡ true = all_at is_table schema t table tables table_at in
-    let columns : list_all (λ (c : Column). is_domain c.domain) table.columns ≡ true = (and_parts (nat_le (length table.columns) 64) (list_all (λ (c : Column). is_domain c.domain) table.columns) whole).1 in
-    let one : is_domain c.domain ≡ true = all_at (λ (c : Column). is_domain c.domain) table.columns column c columns c_at in
+    let one : is_domain c.domain ≡ true = all_at (λ (c : Column). is_domain c.domain) table.columns column c (table_known schema t table known table_at).domains c_at in
     subst IsOrderly (same_Some c.domain d is) (domain_orderly c.domain one))))
 
 low_left : (row column : ℕ) (o : Option Domain) (b : Bound) → option_and_then (low_bound row column) o ≡ Some b → b.left ≡ side.Zero
 low_left row column None b is = absurd (none-some b is)
 low_left row column (Some (Number least greatest unit)) b is = sym (ap (λ (x : Bound). x.left) (same_Some _ b is))
+low_left row column (Some (Text length)) b is = absurd (none-some b is)
 
 low_right : (row column : ℕ) (o : Option Domain) (b : Bound) → option_and_then (low_bound row column) o ≡ Some b → b.right ≡ side.Cell row column
 low_right row column None b is = absurd (none-some b is)
 low_right row column (Some (Number least greatest unit)) b is = sym (ap (λ (x : Bound). x.right) (same_Some _ b is))
+low_right row column (Some (Text length)) b is = absurd (none-some b is)
 
 high_left : (row column : ℕ) (o : Option Domain) (b : Bound) → option_and_then (high_bound row column) o ≡ Some b → b.left ≡ side.Cell row column
 high_left row column None b is = absurd (none-some b is)
 high_left row column (Some (Number least greatest unit)) b is = sym (ap (λ (x : Bound). x.left) (same_Some _ b is))
+high_left row column (Some (Text length)) b is = absurd (none-some b is)
 
 -- the two bounds of one cell contradict nothing
 low_high : (row column : ℕ) (o : Option Domain) (a b : Bound) → ((d : Domain) → o ≡ Some d → IsOrderly d) → option_and_then (low_bound row column) o ≡ Some a → option_and_then (high_bound row column) o ≡ Some b → (a.most +ℤ b.most) <ℤ pos 0 → ⊥
@@ -56,6 +56,7 @@ low_high row column (Some (Number least greatest unit)) a b orderly low high neg
     let a_most : neg_ℤ least ≡ a.most = ap (λ (x : Bound). x.most) (same_Some _ a low) in
     let b_most : greatest ≡ b.most = ap (λ (x : Bound). x.most) (same_Some _ b high) in
     omega (arith, ints)
+low_high row column (Some (Text length)) a b orderly low high negative = absurd (none-some a low)
 
 zero_cell : (row column : ℕ) → side.Zero ≡ side.Cell row column → ⊥
 zero_cell row column is = cc

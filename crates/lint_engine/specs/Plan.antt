@@ -6,10 +6,11 @@ use Rattle.lint_core.specs.declared.certificate.Step.{Step}
 use Rattle.lint_core.specs.declared.certificate.Step.TheVariants as step
 use Rattle.lint_core.specs.declared.certificate.SumEdge.{SumEdge}
 use Rattle.lint_core.specs.declared.certificate.SumEdge.TheVariants as edge
+use Rattle.lint_core.specs.declared.condition.Block.{Block}
 use Rattle.lint_core.specs.declared.condition.Cond.{Cond, out-Cond}
 use Rattle.lint_core.specs.declared.condition.Cond.TheOpen.{Cond-F}
-use Rattle.lint_core.specs.declared.condition.Op.{Op}
-use Rattle.lint_core.specs.declared.condition.Op.TheVariants.{Eq, Lt, Le, Gt, Ge}
+use Rattle.lint_tables.specs.declared.op.Op.{Op}
+use Rattle.lint_tables.specs.declared.op.Op.TheVariants.{Eq, Ne, Lt, Le, Gt, Ge}
 use Rattle.lint_core.specs.declared.condition.Term.{Term}
 use Rattle.lint_core.specs.declared.condition.Term.TheVariants as term
 use Rattle.lint_core.specs.declared.database.Row.{Row}
@@ -17,7 +18,7 @@ use Rattle.lint_core.specs.declared.database.Value.{Value}
 use Rattle.lint_core.specs.declared.database.Value.TheVariants.{Null, Int}
 use Rattle.lint_core.specs.declared.schema.Column.{Column}
 use Rattle.lint_core.specs.declared.schema.Domain.{Domain}
-use Rattle.lint_core.specs.declared.schema.Domain.TheVariants.{Number}
+use Rattle.lint_core.specs.declared.schema.Domain.TheVariants.{Number, Text}
 use Rattle.diff_bounds.specs.declared.system.Edge.{Edge}
 use Rattle.diff_bounds.specs.System.{value_in}
 use Rattle.lint_engine.specs.declared.comparison.Comparison.{Comparison}
@@ -28,12 +29,11 @@ use Rattle.lint_engine.specs.declared.inequality.Inequality.{Inequality}
 -- a column against a number
 abbrev pub comparison_of : Op → Term → Term → Option Comparison
 comparison_of op (term.Cell level entry column added) (term.Number value unit) = Some (record { column = column; op = op; literal = value })
-comparison_of op (term.Cell level entry column added) (term.Cell level' entry' column' added') = None
-comparison_of op (term.Number value unit) right = None
+comparison_of op left right = None
 
-abbrev pub comparison_layer : Cond-F Cond → Option Comparison
-comparison_layer (Cond-F.And parts) = None
+abbrev pub comparison_layer : Cond-F Cond Block → Option Comparison
 comparison_layer (Cond-F.Compare op left right span) = comparison_of op left right
+comparison_layer layer = None
 
 abbrev pub comparison_in : Cond → Option Comparison
 comparison_in cond = comparison_layer (out-Cond cond)
@@ -42,9 +42,10 @@ abbrev pub comparisons_among : List Cond → List Comparison
 comparisons_among [] = []
 comparisons_among (cond ∷ conds) = option_to_list (comparison_in cond) ++ comparisons_among conds
 
-abbrev pub comparisons_layer : Cond-F Cond → List Comparison
+abbrev pub comparisons_layer : Cond-F Cond Block → List Comparison
 comparisons_layer (Cond-F.And parts) = comparisons_among parts
 comparisons_layer (Cond-F.Compare op left right span) = option_to_list (comparison_of op left right)
+comparisons_layer layer = []
 
 abbrev pub comparisons_in : Cond → List Comparison
 comparisons_in cond = comparisons_layer (out-Cond cond)
@@ -69,6 +70,7 @@ at_least column least name = record { edge = record { left = 0; right = column +
 
 abbrev pub of_domain : ℕ → Domain → List Inequality
 of_domain column (Number least greatest unit) = at_least column least (edge.Low 0 column) ∷ at_most column greatest (edge.High 0 column) ∷ []
+of_domain column (Text length) = []
 
 -- of the columns, the first of which has this number
 abbrev pub of_domains : ℕ → List Column → List Inequality
@@ -78,6 +80,7 @@ of_domains column (c ∷ cs) = of_domain column c.domain ++ of_domains (column +
 -- of a comparison, whose formula is this fact; the parts of an equation are the facts from `parts` on
 abbrev pub of_comparison : ℕ → ℕ → ℕ → ℤ → Op → List Inequality
 of_comparison fact parts column literal Eq = at_most column literal (edge.Fact parts) ∷ at_least column literal (edge.Fact (parts + 1)) ∷ []
+of_comparison fact parts column literal Ne = []
 of_comparison fact parts column literal Lt = at_most column (literal -ℤ pos 1) (edge.Fact fact) ∷ []
 of_comparison fact parts column literal Le = at_most column literal (edge.Fact fact) ∷ []
 of_comparison fact parts column literal Gt = at_least column (literal +ℤ pos 1) (edge.Fact fact) ∷ []
@@ -86,6 +89,7 @@ of_comparison fact parts column literal Ge = at_least column literal (edge.Fact 
 -- the next fact behind the parts of the comparison
 abbrev pub parts_after : ℕ → Op → ℕ
 parts_after parts Eq = parts + 2
+parts_after parts Ne = parts
 parts_after parts Lt = parts
 parts_after parts Le = parts
 parts_after parts Gt = parts
@@ -112,6 +116,7 @@ edges_of inequalities = map (λ (i : Inequality). i.edge) inequalities
 -- takes an equation apart
 abbrev pub equation_step : ℕ → Op → List Step
 equation_step fact Eq = step.And fact ∷ []
+equation_step fact Ne = []
 equation_step fact Lt = []
 equation_step fact Le = []
 equation_step fact Gt = []

@@ -7,7 +7,8 @@ ghost use Rattle.lint_engine.specs.Plan.{equation_step, equation_steps, and_step
 use crate::comparison::Comparison;
 use crate::inequality::{Inequality, first_fact};
 use lint_base::{Items, NoMemory};
-use lint_core::{Cert, Op, Step, SumEdge, Value};
+use lint_core::{Cert, Step, SumEdge, Value};
+use lint_tables::Op;
 use std::alloc::Global;
 
 /// The certificate of E1 that closes its one branch by the two inequalities of the cycle.

@@ -3,7 +3,8 @@ ghost use Rattle.std.specs.Prelude.{◌≡◌, IfOk};
 ghost use Rattle.lint_engine.specs.Plan.{comparison_in, comparison_of, comparisons_among, comparisons_in};
 
 use lint_base::NoMemory;
-use lint_core::{Cond, Op, Term};
+use lint_core::{Cond, Term};
+use lint_tables::Op;
 use std::alloc::Global;
 
 /// A comparison of a column with a number.
@@ -27,11 +28,12 @@ pub(crate) fn read_comparisons(alloc: Global, cond: &Cond) -> Result<Vec<Compari
             ..
         } => {
             let mut comparisons = Vec::new(alloc);
-            if let Some(comparison) = compared(*op, *left, *right) {
+            if let Some(comparison) = compared(*op, left, right) {
                 comparisons.push(comparison)?;
             }
             Ok(comparisons)
         }
+        _ => Ok(Vec::new(alloc)),
     }
 }
 
@@ -51,25 +53,25 @@ fn read_comparison(cond: &Cond) -> Option<Comparison>
     ensures { result ≡ comparison_in cond.now }
 {
     match cond {
-        Cond::And(_) => None,
         Cond::Compare {
             op,
             left,
             right,
             ..
-        } => compared(*op, *left, *right),
+        } => compared(*op, left, right),
+        _ => None,
     }
 }
 
 /// The comparison, where it is one of a column with a number.
-fn compared(op: Op, left: Term, right: Term) -> Option<Comparison>
-    ensures { result ≡ comparison_of op left right }
+fn compared(op: Op, left: &Term, right: &Term) -> Option<Comparison>
+    ensures { result ≡ comparison_of op left.now right.now }
 {
     match (left, right) {
         (Term::Cell { column, .. }, Term::Number { value, .. }) => Some(Comparison {
-            column,
+            column: *column,
             op,
-            literal: value,
+            literal: *value,
         }),
         _ => None,
     }

@@ -1,10 +1,9 @@
 //! E1, "the answer is empty".
-ghost use Rattle.std.specs.Prelude.{◌≡◌, true, List, IfOk};
+ghost use Rattle.std.specs.Prelude.{◌≡◌, List, IfOk};
 ghost use Rattle.lint_core.specs.declared.query.Question.{Question};
 ghost use Rattle.lint_core.specs.declared.schema.Table.{Table};
 ghost use Rattle.lint_core.specs.Answer.{IsRightAnswer};
 ghost use Rattle.lint_core.specs.FirstForm.{Conjunct, IsFirstForm};
-ghost use Rattle.lint_core.specs.Fits.{query_fits};
 
 use crate::certificate::certificate;
 use crate::comparison::read_comparisons;
@@ -26,8 +25,7 @@ pub fn judge_empty(
     query: &Query,
     number: u32,
 ) -> Result<Answer, NoMemory>
-    requires form { (table : Table) × (conjuncts : List Conjunct) × IsFirstForm schema.now query.now table conjuncts }
-    requires fits { query_fits schema.now query.now ≡ true }
+    requires { (table : Table) × (conjuncts : List Conjunct) × IsFirstForm schema.now query.now table conjuncts }
     ensures { IfOk result (λ answer. IsRightAnswer schema.now query.now number 1 Question.Empty answer) }
 {
     certified_question_holds();

@@ -5,7 +5,8 @@ ghost use Rattle.lint_engine.specs.Plan.{IsNumber, AreNumbers, at_most, at_least
 use crate::comparison::Comparison;
 use diff_bounds::Edge;
 use lint_base::NoMemory;
-use lint_core::{Column, Domain, Op, SumEdge};
+use lint_core::{Column, Domain, SumEdge};
+use lint_tables::Op;
 use std::alloc::Global;
 
 /// An inequality between a column and a number: as an edge, in which variable 0 stands for the number
@@ -84,7 +85,10 @@ fn push_domain(
         least,
         greatest,
         ..
-    } = domain;
+    } = domain
+    else {
+        return Ok(());
+    };
     let low = SumEdge::Low { row: 0, column };
     let high = SumEdge::High { row: 0, column };
     inequalities.push(Inequality::at_least(column, i128::from(least), low))?;
@@ -145,6 +149,7 @@ fn push_comparison(
             inequalities.push(Inequality::at_least(column, bound, SumEdge::Fact(parts + 1)))?;
             return Ok(parts + 2);
         }
+        Op::Ne => {}
         Op::Lt => inequalities.push(Inequality::at_most(column, bound - 1, whole))?,
         Op::Le => inequalities.push(Inequality::at_most(column, bound, whole))?,
         Op::Gt => inequalities.push(Inequality::at_least(column, bound + 1, whole))?,

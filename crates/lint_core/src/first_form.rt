@@ -1,0 +1,322 @@
+//! The test of the first form, which the questions that are judged so far are about.
+ghost use Rattle.std.specs.Prelude.{◌≡◌};
+ghost use Rattle.std.specs.List.{list_all};
+ghost use Rattle.lint_core.specs.FirstForm.{is_one_range, is_plain_column, is_column, is_literal, is_conjunct, is_where, is_one, is_plain_table, is_plain_item, is_plain_entry, is_plain_query, is_first_form};
+
+use crate::condition::{Cond, Entry, Term};
+use crate::query::{Item, Query};
+use crate::schema::{Column, Domain, Schema, Table};
+use lint_tables::Op;
+
+fn is_one_range(op: Op) -> bool
+    ensures { result ≡ is_one_range op }
+{
+    !matches!(op, Op::Ne)
+}
+
+impl Term {
+    /// Whether it is one of so many columns of the one entry, with nothing added.
+    fn is_column(&self, count: usize) -> bool
+        ensures { result ≡ is_column count self.now }
+    {
+        match self {
+            Term::Cell {
+                level,
+                entry,
+                column,
+                plus,
+            } => *level == 0 && *entry == 0 && (*column as usize) < count && *plus == 0,
+            _ => false,
+        }
+    }
+
+    fn is_literal(&self) -> bool
+        ensures { result ≡ is_literal self.now }
+    {
+        matches!(self, Term::Number { .. })
+    }
+}
+
+impl Cond {
+    fn is_conjunct(&self, count: usize) -> bool
+        ensures { result ≡ is_conjunct count self.now }
+    {
+        match self {
+            Cond::Compare {
+                op,
+                left,
+                right,
+                ..
+            } => is_one_range(*op) && left.is_column(count) && right.is_literal(),
+            _ => false,
+        }
+    }
+
+    fn is_where(&self, count: usize) -> bool
+        ensures { result ≡ is_where count self.now }
+    {
+        match self {
+            Cond::And(parts) => {
+                let parts = parts.as_slice();
+                parts.len() >= 2 && parts.len() <= 4096 && are_conjuncts(parts, count)
+            }
+            _ => self.is_conjunct(count),
+        }
+    }
+}
+
+fn are_conjuncts(conds: &[Cond], count: usize) -> bool
+    ensures { result ≡ list_all (is_conjunct count) conds.now }
+{
+    conds.iter().all(|c| c.is_conjunct(count))
+}
+
+impl Column {
+    fn is_plain(&self) -> bool
+        ensures { result ≡ is_plain_column self.now }
+    {
+        matches!(self.domain, Domain::Number { .. }) && !self.not_null
+    }
+}
+
+fn are_plain(columns: &[Column]) -> bool
+    ensures { result ≡ list_all is_plain_column columns.now }
+{
+    columns.iter().all(|c| c.is_plain())
+}
+
+impl Table {
+    fn is_plain(&self) -> bool
+        ensures { result ≡ is_plain_table self.now }
+    {
+        are_plain(self.columns.as_slice())
+            && self.keys.as_slice().is_empty()
+            && self.checks.as_slice().is_empty()
+            && self.foreign.as_slice().is_empty()
+    }
+}
+
+fn is_one_item(items: &[Item], count: usize) -> bool
+    ensures { result ≡ is_one (is_plain_item count) items.now }
+{
+    match items {
+        [item] => item.term.is_column(count) && !item.star,
+        _ => false,
+    }
+}
+
+fn is_one_entry(entries: &[Entry]) -> bool
+    ensures { result ≡ is_one is_plain_entry entries.now }
+{
+    match entries {
+        [entry] => entry.table == 0,
+        _ => false,
+    }
+}
+
+impl Query {
+    fn is_plain(&self, count: usize) -> bool
+        ensures { result ≡ is_plain_query count self.now }
+    {
+        self.distinct.is_none()
+            && is_one_item(self.items.as_slice(), count)
+            && is_one_entry(self.block.entries.as_slice())
+            && self.block.cond.is_where(count)
+            && self.order.as_slice().is_empty()
+    }
+
+    /// Whether the query is of the first form: the schema is one table of number columns without
+    /// constraints, the query selects one of its columns, and its WHERE is one comparison, or an AND of
+    /// 2 to 4,096, of a column with a number by an operator other than `<>`. It takes no memory.
+    pub fn is_first_form(&self, schema: &Schema) -> bool
+        ensures { result ≡ is_first_form schema.now self.now }
+    {
+        match schema.tables().as_slice() {
+            [table] => table.is_plain() && self.is_plain(table.columns.as_slice().len()),
+            _ => false,
+        }
+    }
+}
+
+#[cfg(test)]
+mod tests {
+    use crate::condition::{Block, Cond, Entry, Term};
+    use crate::query::{Item, Query};
+    use crate::schema::{Column, Domain, Key, Schema, Table, Unit};
+    use lint_base::{Items, NoMemory, Span, Str};
+    use lint_tables::Op;
+    use std::alloc::Global;
+    use std::test::Fail;
+
+    const NOWHERE: Span = Span { from: 0, to: 0 };
+
+    /// What sets a query apart from `SELECT A FROM T WHERE A > 5` over a table of one INTEGER column.
+    #[derive(Clone, Copy, Debug, PartialEq, Eq)]
+    enum Change {
+        Nothing,
+        NotEqual,
+        Plus,
+        NoSuchColumn,
+        AgainstColumn,
+        AgainstNull,
+        AndOfOne,
+        AndOfTwo,
+        OrOfTwo,
+        Star,
+        Distinct,
+        Order,
+        TwoEntries,
+        NotNull,
+        TextColumn,
+        Unique,
+    }
+
+    fn cell(column: u32, plus: i64) -> Term {
+        Term::Cell {
+            level: 0,
+            entry: 0,
+            column,
+            plus,
+        }
+    }
+
+    fn comparison(change: Change) -> Cond {
+        Cond::Compare {
+            op: if change == Change::NotEqual {
+                Op::Ne
+            } else {
+                Op::Gt
+            },
+            left: match change {
+                Change::Plus => cell(0, 1),
+                Change::NoSuchColumn => cell(1, 0),
+                _ => cell(0, 0),
+            },
+            right: match change {
+                Change::AgainstColumn => cell(0, 0),
+                Change::AgainstNull => Term::Null,
+                _ => Term::Number {
+                    value: 5,
+                    unit: Unit::Whole,
+                },
+            },
+            span: NOWHERE,
+        }
+    }
+
+    fn filter(alloc: Global, change: Change) -> Result<Cond, NoMemory> {
+        let mut parts = Items::new(alloc);
+        parts.push(comparison(change))?;
+        match change {
+            Change::AndOfOne => Ok(Cond::And(parts)),
+            Change::AndOfTwo => {
+                parts.push(comparison(change))?;
+                Ok(Cond::And(parts))
+            }
+            Change::OrOfTwo => {
+                parts.push(comparison(change))?;
+                Ok(Cond::Or(parts))
+            }
+            _ => Ok(comparison(change)),
+        }
+    }
+
+    fn entries(alloc: Global, count: u32) -> Result<Items<Entry>, NoMemory> {
+        let mut entries = Items::new(alloc);
+        for _ in 0..count {
+            entries.push(Entry {
+                table: 0,
+                name: Str::from_str(alloc, "T")?,
+                span: NOWHERE,
+            })?;
+        }
+        Ok(entries)
+    }
+
+    fn query(alloc: Global, change: Change) -> Result<Query, NoMemory> {
+        let mut items = Items::new(alloc);
+        items.push(Item {
+            term: cell(0, 0),
+            star: change == Change::Star,
+            span: NOWHERE,
+        })?;
+        let mut order = Items::new(alloc);
+        if change == Change::Order {
+            order.push(cell(0, 0))?;
+        }
+        let count = if change == Change::TwoEntries { 2 } else { 1 };
+        Ok(Query {
+            distinct: if change == Change::Distinct {
+                Some(NOWHERE)
+            } else {
+                None
+            },
+            items,
+            block: Block {
+                entries: entries(alloc, count)?,
+                cond: filter(alloc, change)?,
+                span: NOWHERE,
+            },
+            order,
+        })
+    }
+
+    fn schema(alloc: Global, change: Change) -> Result<Option<Schema>, NoMemory> {
+        let mut columns = Items::new(alloc);
+        columns.push(Column {
+            name: Str::from_str(alloc, "A")?,
+            domain: match change {
+                Change::TextColumn => Domain::Text { length: 3 },
+                _ => Domain::Number {
+                    least: -2147483648,
+                    greatest: 2147483647,
+                    unit: Unit::Whole,
+                },
+            },
+            not_null: change == Change::NotNull,
+        })?;
+        let mut keys = Items::new(alloc);
+        if change == Change::Unique {
+            let mut key = Items::new(alloc);
+            key.push(0)?;
+            keys.push(Key { columns: key })?;
+        }
+        let mut tables = Items::new(alloc);
+        tables.push(Table {
+            name: Str::from_str(alloc, "T")?,
+            columns,
+            keys,
+            checks: Items::new(alloc),
+            foreign: Items::new(alloc),
+        })?;
+        Ok(Schema::new(tables))
+    }
+
+    #[test]
+    fn first_form_is_told_from_others(rt: HostRuntime) -> Result<(), Fail> {
+        let alloc = rt.alloc();
+        for (change, first) in [
+            (Change::Nothing, true),
+            (Change::AndOfTwo, true),
+            (Change::NotEqual, false),
+            (Change::Plus, false),
+            (Change::NoSuchColumn, false),
+            (Change::AgainstColumn, false),
+            (Change::AgainstNull, false),
+            (Change::AndOfOne, false),
+            (Change::OrOfTwo, false),
+            (Change::Star, false),
+            (Change::Distinct, false),
+            (Change::Order, false),
+            (Change::TwoEntries, false),
+            (Change::NotNull, false),
+            (Change::TextColumn, false),
+            (Change::Unique, false),
+        ] {
+            let schema = schema(alloc, change)?.ok_or("a schema")?;
+            let query = query(alloc, change)?;
+            assert_eq!(rt; query.is_first_form(&schema), first, "{change:?}");
+        }
+        Ok(())
+    }
+}
