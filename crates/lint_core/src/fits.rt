@@ -239,8 +239,9 @@ impl Block {
 }
 
 impl Cond {
-    fn is_within_limit(&self) -> bool
-        ensures { result ≡ nat_le (count_conditions self.now) MOST_CONDITIONS }
+    /// Whether there are at most 65,536 conditions, this one and those of subqueries counted.
+    pub fn is_within_limit(&self) -> bool
+        ensures { result ≡ nat_le (count_conditions self.now) 65536 }
     {
         self.spend(MOST_CONDITIONS).is_some()
     }

@@ -38,5 +38,5 @@ pub use laws::{
 };
 pub use query::{Item, Query, Question};
 pub use run::{Answer, QueryResult, QueryRun, Run};
-pub use schema::{Column, Domain, ForeignKey, Key, Schema, Table, Unit};
+pub use schema::{Column, Domain, ForeignKey, Key, Kind, Schema, Table, Unit};
 pub use worked::{worked_constraints, worked_truths};

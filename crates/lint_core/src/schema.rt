@@ -19,7 +19,7 @@ pub enum Unit {
 
 /// What may be compared: numbers of one unit with each other, and texts. NULL goes with both.
 #[derive(Clone, Copy, Debug, PartialEq, Eq)]
-pub(crate) enum Kind {
+pub enum Kind {
     Null,
     Number(Unit),
     Text,
@@ -41,7 +41,8 @@ pub enum Domain {
 }
 
 impl Kind {
-    fn goes_with(self, other: Kind) -> bool
+    /// Whether values of the two kinds may be compared at all: both are of one kind, or one is NULL.
+    pub fn goes_with(self, other: Kind) -> bool
         ensures { result ≡ goes_with self other }
     {
         match (self, other) {
@@ -52,7 +53,7 @@ impl Kind {
     }
 
     /// Whether the operator compares values of the two kinds.
-    pub(crate) fn compares(self, op: Op, other: Kind) -> bool
+    pub fn compares(self, op: Op, other: Kind) -> bool
         ensures { result ≡ compares op self other }
     {
         let texts = matches!(self, Kind::Text) || matches!(other, Kind::Text);
@@ -60,7 +61,7 @@ impl Kind {
     }
 
     /// The kind with a number added: nothing is added to a text.
-    pub(crate) fn with_added(self, added: i64) -> Option<Kind>
+    pub fn with_added(self, added: i64) -> Option<Kind>
         ensures { result ≡ with_added added self }
     {
         match self {
@@ -343,7 +344,7 @@ fn foreign_keys_fit(keys: &[ForeignKey], tables: &[Table], table: &Table) -> boo
 
 impl Table {
     /// The kind of a column, if the table has it.
-    pub(crate) fn column_kind(&self, column: u32) -> Option<Kind>
+    pub fn column_kind(&self, column: u32) -> Option<Kind>
         ensures { result ≡ column_kind self.now column }
     {
         match self.columns.as_slice().get(column as usize) {
