@@ -1,0 +1,11 @@
+pub mod Bound
+pub mod Names
+pub mod Terms
+pub mod Conditions
+pub mod Selects
+pub mod Queries
+pub mod Columns
+pub mod Keys
+pub mod Schemas
+pub mod Shape
+pub mod NameTables
