@@ -18,19 +18,13 @@ use Rattle.lint_core.specs.declared.query.Item.{Item}
 use Rattle.lint_core.specs.declared.schema.Table.{Table}
 use Rattle.lint_core.specs.Fits.{term_kind, term_fits}
 use Rattle.lint_core.specs.Kind.{compares_both}
+-- a selected item with its alias, a SELECT with what it selects and from where, and a value of an IN list with its place
+pub use Rattle.sql_bind.specs.declared.selects.Selected.{Selected}
+pub use Rattle.sql_bind.specs.declared.selects.BoundSelect.{BoundSelect}
+pub use Rattle.sql_bind.specs.declared.predicates.Value.{Value}
 use Rattle.sql_bind.specs.Bound.{Bound, refused, and_then, all_bound}
 use Rattle.sql_bind.specs.Names.{Level, whole_level, level_tables}
 use Rattle.sql_bind.specs.Terms.{bind_term, compares}
-
--- a selected item, and the alias that it was given
-pub record Selected : Type 0 where
-  pub item : Item
-  pub alias : Option (List ℕ)
-
--- a SELECT: what it selects, and from where
-pub record BoundSelect : Type 0 where
-  pub selected : List Selected
-  pub block : Block
 
 -- what a condition, and a SELECT, binds to at the levels around it
 abbrev pub CondMeaning : Type 0
@@ -67,11 +61,6 @@ tree_span (tree.Column table name added span) = span
 tree_span (tree.Number value span) = span
 tree_span (tree.Text text span) = span
 tree_span (tree.Null span) = span
-
--- a value of an IN list with its place
-pub record Value : Type 0 where
-  pub term : Term
-  pub span : Span
 
 abbrev pub in_list : Bool → Term → List Value → Cond
 in_list false a values = joined Or (map (λ (v : Value). Compare Eq a v.term v.span) values)

@@ -9,3 +9,6 @@ pub mod Keys
 pub mod Schemas
 pub mod Shape
 pub mod NameTables
+pub mod Levels
+pub mod Found
+pub mod Meanings

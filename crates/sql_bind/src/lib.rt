@@ -8,4 +8,10 @@
 //! the bound form, or the refusal of the first rule that is broken, unless memory ran out.
 #![tactic(auto)]
 
+mod bound;
+mod conditions;
+mod levels;
 mod names;
+mod predicates;
+mod selects;
+mod terms;

@@ -4,13 +4,11 @@ use Rattle.std.specs.Prelude.{ℕ, Bool, true, false, ◌<◌, ◌≤◌, ◌≡
 use Rattle.lint_base.specs.Counts.{Rose}
 use Rattle.lint_base.specs.Shelf.{file_at}
 use Rattle.lint_base.specs.declared.place.Refusal.{Refusal}
-use Rattle.lint_base.specs.declared.place.TextStop.TheVariants as text_stop
 use Rattle.lint_core.specs.declared.schema.Table.{Table}
 use Rattle.lint_core.specs.declared.run.QueryRun.{QueryRun}
 use Rattle.lint_core.specs.declared.run.Run.{Run}
-use Rattle.sql_parse.specs.FirstSchema.{IsFirstSchema}
-use Rattle.sql_parse.specs.Refused.{IsRefused}
 use Rattle.sqllint.specs.RightRun.{AreRightQueries}
+use Rattle.sqllint.specs.TextReading.{ReadsSchema, RefusesSchema}
 use Rattle.sqllint.specs.Words.{Paths}
 use Rattle.sqllint.specs.declared.outcome.Which.{Which}
 use Rattle.sqllint.specs.declared.outcome.Which.TheVariants as which
@@ -88,13 +86,13 @@ module _ (files : Option (List ℕ → Option (List ℕ))) where
   pub record IsSchemaRead (path : List ℕ) (before now : Told) (schema : List Table) : Type 0 where
     pub text : List ℕ
     pub whole : IsReadWhole path text before now
-    pub declares : IsFirstSchema text schema
+    pub declares : ReadsSchema text schema
 
-  -- the file at the path declares no schema of the first form
+  -- the file at the path declares no schema
   pub record IsSchemaRefused (path : List ℕ) (before now : Told) (refusal : Refusal) : Type 0 where
     pub text : List ℕ
     pub whole : IsReadWhole path text before now
-    pub refused : IsRefused text (IsFirstSchema text) (text_stop.Refused refusal)
+    pub refused : RefusesSchema text refusal
 
   -- the runs are right for the queries of the file at the path
   pub record AreQueriesRead (path : List ℕ) (before now : Told) (schema : List Table) (queries : List QueryRun) : Type 0 where

@@ -1,6 +1,6 @@
 -- The bytes that a run writes: its report, or the one line of its stop. Every line ends with byte 10, and
 -- numbers are decimal.
-use Rattle.std.specs.Prelude.{ℕ, ◌+◌, List, [], ◌∷◌, ◌++◌, Bool, true, false, if◌then◌else◌, Option, Some, None, codes, encode_utf8_all}
+use Rattle.std.specs.Prelude.{ℕ, ◌+◌, List, [], ◌∷◌, ◌++◌, Bool, true, false, if◌then◌else◌, nat_eq, Option, Some, None, codes, encode_utf8_all}
 use Rattle.std.specs.Fmt.{decimal, signed_decimal}
 use Rattle.lint_base.specs.declared.place.Span.{Span}
 use Rattle.lint_base.specs.declared.place.Fault.{Fault}
@@ -49,7 +49,6 @@ unfoldable pub fault_text : Fault → List ℕ
 fault_text fault.BadByte = codes "1 BadByte"
 fault_text fault.OpenQuote = codes "2 OpenQuote"
 fault_text fault.BigNumber = codes "3 BigNumber"
-fault_text fault.NotBuilt = codes "10 NotBuilt"
 fault_text fault.Long = codes "11 Long"
 fault_text fault.Deep = codes "12 Deep"
 fault_text fault.Syntax = codes "13 Syntax"
@@ -89,11 +88,18 @@ step_text (step.Sum edges) = codes "[\"sum\",[" ++ joined (codes ",") edge_text 
 unfoldable pub steps_text : List Step → List ℕ
 steps_text steps = codes "[" ++ joined (codes ",") step_text steps ++ codes "]"
 
+-- each such character stands twice
+unfoldable pub doubled : ℕ → List ℕ → List ℕ
+doubled mark [] = []
+doubled mark (c ∷ cs) = if nat_eq c mark then c ∷ c ∷ doubled mark cs else c ∷ doubled mark cs
+
+-- a text stands between single quotes, each quote in it twice
 unfoldable pub value_text : Value → List ℕ
 value_text value.Null = codes "NULL"
 value_text (value.Int n) = signed_decimal n
+value_text (value.Text text) = codes "'" ++ encode_utf8_all (doubled 39 text) ++ codes "'"
 
--- names that are read so far are words, which are printed as they are
+-- names of what is judged so far are words, which are printed as they are
 unfoldable pub target_text : Table → List ℕ
 target_text table = codes "    INSERT INTO " ++ encode_utf8_all table.name ++ codes " VALUES ("
 

@@ -20,7 +20,7 @@ pub enum Stop {
     ReadFault(Which),
     /// The file has more than 1,048,576 bytes.
     TooLong(Which),
-    /// The file declares no schema of the first form.
+    /// The file declares no schema.
     SchemaRefused(Refusal),
     /// The sink failed. It replaces the stop whose line was being written.
     WriteFault,

@@ -1,7 +1,7 @@
 //! A run of the program, over any shelf and any sink.
 ghost use Rattle.std.specs.Prelude.{◌≡◌, ◌≤◌, ℕ, List, [], Option, Some, None, length, map, string_bytes, IfOk, OnOk, OnErr};
 ghost use Rattle.std.specs.List.{list_any};
-ghost use Rattle.sqllint.specs.Status.{is_finding, has_finding, is_refused, queries_status as status_of_queries, status_of};
+ghost use Rattle.sqllint.specs.Status.{is_finding, has_finding, is_unjudged, queries_status as status_of_queries, status_of};
 ghost use Rattle.sqllint.specs.Stops.{is_no_memory, Told, told, IsUnbegun, HasCauseAt, HasCause};
 ghost use Rattle.sqllint.specs.Text.{run_text};
 ghost use Rattle.sqllint.specs.Words.{Paths, paths_of, paths_at};
@@ -111,10 +111,13 @@ fn result_finds(result_of: &QueryResult) -> bool
     }
 }
 
-fn result_refused(result_of: &QueryResult) -> bool
-    ensures { result ≡ is_refused result_of.now }
+fn result_unjudged(result_of: &QueryResult) -> bool
+    ensures { result ≡ is_unjudged result_of.now }
 {
-    matches!(result_of, QueryResult::Refused(_))
+    match result_of {
+        QueryResult::Refused(_) => true,
+        QueryResult::Answered { questions, .. } => questions.as_slice().is_empty(),
+    }
 }
 
 fn any_result_finds(queries: &[QueryRun]) -> bool
@@ -123,10 +126,10 @@ fn any_result_finds(queries: &[QueryRun]) -> bool
     queries.iter().any(|q| result_finds(&q.result))
 }
 
-fn any_result_refused(queries: &[QueryRun]) -> bool
-    ensures { result ≡ list_any (λ q. is_refused q.result) queries.now }
+fn any_result_unjudged(queries: &[QueryRun]) -> bool
+    ensures { result ≡ list_any (λ q. is_unjudged q.result) queries.now }
 {
-    queries.iter().any(|q| result_refused(&q.result))
+    queries.iter().any(|q| result_unjudged(&q.result))
 }
 
 fn queries_status(queries: &[QueryRun]) -> u8
@@ -134,7 +137,7 @@ fn queries_status(queries: &[QueryRun]) -> u8
 {
     if any_result_finds(queries) {
         1
-    } else if any_result_refused(queries) {
+    } else if any_result_unjudged(queries) {
         6
     } else {
         0
@@ -207,7 +210,7 @@ fn written<K: Sink>(alloc: Global, judged: Judged, out: &mut K) -> Outcome
 /// | `WordsRefused` | exactly where the words are not two files; nothing is read |
 /// | `OpenFault`, `ReadFault` | only where the shelf's count of that fault rose, at the file that the stop names |
 /// | `TooLong` | exactly where the shelf gave more than 1,048,576 bytes of the file |
-/// | `SchemaRefused` | exactly where the schema file is not of the first form |
+/// | `SchemaRefused` | exactly where the schema file's bytes, tokens or names break a rule of the language |
 /// | `WriteFault` | only where the sink's count rose; it replaces the stop whose line was being written |
 /// | `NoMemory` | where memory ran out |
 pub fn run<H: Shelf, K: Sink>(

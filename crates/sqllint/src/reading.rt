@@ -1,20 +1,19 @@
 //! From the two files to what is answered of their queries.
 ghost use Rattle.std.specs.Prelude.{◌≡◌, ◌<◌, ◌≤◌, ◌^◌, ℕ, List, [], ◌∷◌, Some, length, true, IfOk, OnOk, IfErr, MatchResult};
-ghost use Rattle.lint_core.specs.declared.schema.Table.{Table};
-ghost use Rattle.lint_core.specs.declared.run.Run.{Run as RunOf};
-ghost use Rattle.lint_core.specs.FirstForm.{Conjunct, IsFirstForm};
 ghost use Rattle.lint_core.specs.Fits.{query_fits};
-ghost use Rattle.lint_core.specs.declared.query.Question.TheVariants.{Empty as empty_question};
-ghost use Rattle.sql_parse.specs.FirstQuery.{IsFirstQuery};
-ghost use Rattle.sqllint.specs.RightRun.{AreRightQueries};
-ghost use Rattle.sqllint.specs.Reading.{stop_of, IsAnsweredRun};
+ghost use Rattle.sql_lex.specs.Within.{IsWithin};
+ghost use Rattle.sqllint.specs.RightRun.{IsRightResult, AreRightQueries};
+ghost use Rattle.sqllint.specs.Reading.{stop_of, IsAnsweredRun, StopsSchema, StopsQuery};
+ghost use Rattle.sqllint.specs.TextReading.{ReadsSchema, ReadsQuery};
 ghost use Rattle.sqllint.specs.Stops.{StopsAtSchema, StopsAtQueries, told, IsSchemaRead, AreQueriesRead};
 
 use crate::outcome::{Stop, Which};
-use lint_base::{Items, NoMemory, ReadStop, Shelf, TextStop, read_file};
-use lint_core::{Query, QueryResult, QueryRun, Question, Run, Schema};
+use lint_base::{Items, NoMemory, ReadStop, Shelf, Span, TextStop, read_file};
+use lint_core::{Query, QueryResult, QueryRun, Question, Schema};
 use lint_engine::judge_empty;
-use sql_parse::{read_first_query, read_first_schema};
+use sql_bind::{bind_query, bind_schema};
+use sql_lex::{lex, split_queries};
+use sql_parse::{parse_query, parse_schema};
 use std::alloc::Global;
 
 /// The most bytes that a file may have.
@@ -29,41 +28,100 @@ fn single<T: Drop>(alloc: Global, item: T) -> Result<Items<T>, NoMemory>
     Ok(items)
 }
 
-/// Judges the one question of a query, E1.
-fn answered(alloc: Global, schema: &Schema, query: Query) -> Result<QueryRun, NoMemory>
-    requires form { (table : Table) × (conjuncts : List Conjunct) × IsFirstForm schema.now query table conjuncts }
+/// What is answered of a query: E1, where it is of the first form, and else nothing yet.
+fn answered(
+    alloc: Global,
+    schema: &Schema,
+    query: Query,
+    number: u32,
+) -> Result<QueryResult, NoMemory>
     requires fits { query_fits schema.now query ≡ true }
-    ensures span { IfOk result (λ q. q.span ≡ query.block.span) }
-    ensures result_of { IfOk result (λ q. IsAnsweredRun schema.now query q.result) }
+    ensures { IfOk result (λ r. IsAnsweredRun schema.now number query r) }
 {
-    let answer = judge_empty(alloc, schema, &query, 1)?;
-    Ok(QueryRun {
-        span: query.block.span,
-        result: QueryResult::Answered {
+    if !query.is_first_form(schema) {
+        return Ok(QueryResult::Answered {
             query,
-            questions: single(alloc, Question::Empty)?,
-            answers: single(alloc, answer)?,
-        },
+            questions: Items::new(alloc),
+            answers: Items::new(alloc),
+        });
+    }
+    let answer = judge_empty(alloc, schema, &query, number)?;
+    Ok(QueryResult::Answered {
+        query,
+        questions: single(alloc, Question::Empty)?,
+        answers: single(alloc, answer)?,
     })
 }
 
-/// What becomes of the queries of a file: of the first form it holds at most one.
+/// The schema that a text declares, or why it declares none.
+fn schema_of(alloc: Global, text: &[u8]) -> Result<Schema, TextStop>
+    requires { length text.now ≤ 1048576 }
+    ensures read { IfOk result (λ schema. ReadsSchema text.now schema) }
+    ensures refused { IfErr result (λ stop. StopsSchema text.now stop) }
+{
+    let whole = Span {
+        from: 0,
+        to: text.len() as u32,
+    };
+    let tokens = lex(alloc, text, whole)?;
+    let trees = parse_schema(alloc, tokens.as_slice())?;
+    bind_schema(alloc, trees.as_slice())
+}
+
+/// The query that a piece of a text is, or why it is none.
+fn query_of(
+    alloc: Global,
+    schema: &Schema,
+    text: &[u8],
+    piece: Span,
+) -> Result<Query, TextStop>
+    requires short { length text.now ≤ 1048576 }
+    requires within { IsWithin (length text.now) piece }
+    ensures read { IfOk result (λ query. ReadsQuery schema.now text.now piece query) }
+    ensures fits { IfOk result (λ query. query_fits schema.now query ≡ true) }
+    ensures refused { IfErr result (λ stop. StopsQuery schema.now text.now piece stop) }
+{
+    let tokens = lex(alloc, text, piece)?;
+    let tree = parse_query(alloc, tokens.as_slice())?;
+    bind_query(alloc, schema, &tree)
+}
+
+/// The entry of a piece, whatever stands in the other pieces.
+fn entry(
+    alloc: Global,
+    schema: &Schema,
+    text: &[u8],
+    piece: Span,
+    number: u32,
+) -> Result<QueryRun, NoMemory>
+    requires short { length text.now ≤ 1048576 }
+    requires within { IsWithin (length text.now) piece }
+    ensures span { IfOk result (λ q. q.span ≡ piece) }
+    ensures right { IfOk result (λ q. IsRightResult schema.now number text.now q q.result) }
+{
+    let result = match query_of(alloc, schema, text, piece) {
+        Ok(query) => answered(alloc, schema, query, number)?,
+        Err(TextStop::Refused(refusal)) => QueryResult::Refused(refusal),
+        Err(TextStop::NoMemory) => return Err(NoMemory),
+    };
+    Ok(QueryRun {
+        span: piece,
+        result,
+    })
+}
+
+/// What becomes of the queries of a file, piece by piece.
 fn runs_of(alloc: Global, schema: &Schema, text: &[u8]) -> Result<Items<QueryRun>, NoMemory>
     requires { length text.now ≤ 1048576 }
     ensures { IfOk result (λ queries. AreRightQueries schema.now text.now queries) }
 {
-    match read_first_query(alloc, schema, text) {
-        Ok(Some(query)) => single(alloc, answered(alloc, schema, query)?),
-        Ok(None) => Ok(Items::new(alloc)),
-        Err(TextStop::Refused(refusal)) => single(
-            alloc,
-            QueryRun {
-                span: refusal.span,
-                result: QueryResult::Refused(refusal),
-            },
-        ),
-        Err(TextStop::NoMemory) => Err(NoMemory),
+    let mut runs = Items::new(alloc);
+    let mut number = 1;
+    for piece in split_queries(text) {
+        runs.push(entry(alloc, schema, text, piece, number)?)?;
+        number += 1;
     }
+    Ok(runs)
 }
 
 /// Why a file was not read, as a stop.
@@ -89,7 +147,7 @@ pub fn schema_at<H: Shelf>(alloc: Global, shelf: &mut H, path: &str) -> Result<S
         (told H.open_faults H.read_faults H.failed_path H.opened_path H.given shelf.new) stop) }
 {
     match read_file(alloc, shelf, path, FILE_LIMIT) {
-        Ok(text) => match read_first_schema(alloc, text.as_slice()) {
+        Ok(text) => match schema_of(alloc, text.as_slice()) {
             Ok(schema) => Ok(schema),
             Err(TextStop::Refused(refusal)) => Err(Stop::SchemaRefused(refusal)),
             Err(TextStop::NoMemory) => Err(Stop::NoMemory),
