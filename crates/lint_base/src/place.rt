@@ -25,8 +25,6 @@ pub enum Fault {
     OpenQuote,
     /// 3: a number above 9223372036854775807.
     BigNumber,
-    /// 10: the text is not of the first form.
-    NotBuilt,
     /// 11: a query has too many tokens.
     Long,
     /// 12: too many parentheses are open.

@@ -1,8 +1,8 @@
--- Three runs whose texts are known by hand: a query that is empty, a query that is refused, and a schema
--- that is refused.
+-- Runs whose texts are known by hand: a query that is empty, one that is not, one of which nothing is asked, two that
+-- are refused, and a schema that is refused.
 use Rattle.std.specs.Prelude.{ℕ, ℤ, pos, ◌≡◌, List, [], ◌∷◌, ◌++◌, Option, Some, None, codes, encode_utf8_all}
 use Rattle.lint_base.specs.declared.place.Span.{Span}
-use Rattle.lint_base.specs.declared.place.Fault.TheVariants.{NotBuilt}
+use Rattle.lint_base.specs.declared.place.Fault.TheVariants.{UnknownColumn, Long, NotAKey}
 use Rattle.lint_base.specs.declared.place.Refusal.{Refusal}
 use Rattle.lint_core.specs.declared.schema.Table.{Table}
 use Rattle.lint_core.specs.declared.certificate.Step.TheVariants as step
@@ -25,8 +25,15 @@ use Rattle.sqllint.specs.Text.{run_text}
 abbrev pub from_to : ℕ → ℕ → Span
 from_to from to = record { from = from; to = to }
 
-abbrev pub not_built : Span → Refusal
-not_built span = record { fault = NotBuilt; span = span; count = 0 }
+-- two entries: a refused query, and one of which nothing is asked
+abbrev pub two_queries : List Table → Query → Run
+two_queries schema query =
+    record {
+      schema = schema;
+      queries = record { span = from_to 0 20; result = Refused (record { fault = UnknownColumn; span = from_to 7 11; count = 0 }) }
+        ∷ record { span = from_to 22 57; result = Answered query [] [] }
+        ∷ [];
+    }
 
 -- the one query of a run, answered
 abbrev pub answered : List Table → Query → Answer → Run
@@ -65,9 +72,15 @@ NotAlwaysText =
 
 abbrev pub RefusedText : Type 0
 RefusedText =
+    (schema : List Table) (query : Query)
+    → run_text None (two_queries schema query) ≡ codes "query 1 at 0..20\n  refused 22 UnknownColumn at 7..11\nquery 2 at 22..57\n"
+
+abbrev pub LongText : Type 0
+LongText =
     (schema : List Table)
-    → run_text None (record { schema = schema; queries = record { span = from_to 0 29; result = Refused (not_built (from_to 0 29)) } ∷ [] })
-    ≡ codes "query 1 at 0..29\n  refused 10 NotBuilt at 0..29\n"
+    → run_text None (record { schema = schema; queries = record { span = from_to 3 9000; result = Refused (record { fault = Long; span = from_to 8998 8999; count = 4097 }) } ∷ [] })
+    ≡ codes "query 1 at 3..9000\n  refused 11 Long at 8998..8999 count 4097\n"
 
 abbrev pub SchemaRefusedText : Type 0
-SchemaRefusedText = (run : Run) → run_text (Some (stop.SchemaRefused (not_built (from_to 0 36)))) run ≡ codes "stop SchemaRefused 10 NotBuilt at 0..36\n"
+SchemaRefusedText =
+    (run : Run) → run_text (Some (stop.SchemaRefused (record { fault = NotAKey; span = from_to 26 38; count = 0 }))) run ≡ codes "stop SchemaRefused 26 NotAKey at 26..38\n"

@@ -1,10 +1,11 @@
 //! Laws of the report. The function does nothing: its contract is the law.
-ghost use Rattle.sqllint.specs.Worked.{AlwaysText, NotAlwaysText, RefusedText, SchemaRefusedText};
+ghost use Rattle.sqllint.specs.Worked.{AlwaysText, NotAlwaysText, RefusedText, LongText, SchemaRefusedText};
 
 /// The texts of runs that are known by hand.
 pub fn worked_texts()
     ensures always { AlwaysText }
     ensures not_always { NotAlwaysText }
     ensures refused { RefusedText }
+    ensures long { LongText }
     ensures schema_refused { SchemaRefusedText }
 {}

@@ -46,7 +46,6 @@ fn push_fault(out: &mut String, fault: Fault) -> Result<(), AllocError>
         Fault::BadByte => push_text(out, "1 BadByte"),
         Fault::OpenQuote => push_text(out, "2 OpenQuote"),
         Fault::BigNumber => push_text(out, "3 BigNumber"),
-        Fault::NotBuilt => push_text(out, "10 NotBuilt"),
         Fault::Long => push_text(out, "11 Long"),
         Fault::Deep => push_text(out, "12 Deep"),
         Fault::Syntax => push_text(out, "13 Syntax"),

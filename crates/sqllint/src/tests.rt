@@ -74,26 +74,111 @@ fn queries_are_answered(rt: HostRuntime) -> Result<(), Fail> {
             1,
             "query 1 at 0..31\n  1 E1 at 0..31: always (finding)\n    proof [[\"ex\",0],[\"sum\",[[0,1],[2,0,1]]]]\n",
         ),
-        plain(
-            "SELECT b FROM t WHERE a <> 5;",
-            6,
-            "query 1 at 0..29\n  refused 10 NotBuilt at 0..29\n",
-        ),
+        // of what is not of the first form nothing is asked yet
+        plain("SELECT b FROM t WHERE a <> 5;", 6, "query 1 at 0..28\n"),
+        plain("SELECT b FROM t x WHERE a > 5;", 6, "query 1 at 0..29\n"),
         plain("", 0, ""),
         plain(" \n", 0, ""),
         Case {
             schema: "CREATE TABLE t (a INTEGER NOT NULL);",
-            ..plain("", 2, "stop SchemaRefused 10 NotBuilt at 0..36\n")
+            ..plain("SELECT a FROM t WHERE a > 5", 6, "query 1 at 0..27\n")
         },
-        Case {
-            schema: "",
-            ..plain("", 2, "stop SchemaRefused 10 NotBuilt at 0..0\n")
-        },
+        // no query stands in another's way
+        plain(
+            "SELECT 'x' FROM t WHERE c > 1; SELECT b FROM t WHERE a > 5 AND a < 6; -- the end\n;",
+            1,
+            "query 1 at 0..29\n  refused 22 UnknownColumn at 24..25\nquery 2 at 31..68\n  1 E1 at 31..68: always (finding)\n    proof [[\"ex\",0],[\"and\",1],[\"sum\",[[0,2],[0,3]]]]\n",
+        ),
     ];
     for case in &cases {
         let (status, text) = status_and_text(rt.alloc(), &["s", "q"], case)?;
         assert_eq!(rt; text.as_slice(), case.text.as_bytes(), "{}", case.queries);
         assert_eq!(rt; status, case.status, "{}", case.queries);
+    }
+    Ok(())
+}
+
+/// Two tables with keys, a CHECK and a foreign key.
+const COMPANY: &str = "CREATE TABLE dept (deptno INTEGER PRIMARY KEY, dname VARCHAR(14) NOT NULL, loc VARCHAR(13) UNIQUE);
+CREATE TABLE emp (empno INTEGER PRIMARY KEY, ename VARCHAR(10) NOT NULL, job VARCHAR(9), mgr INTEGER, sal INTEGER CHECK (sal > 0), deptno INTEGER NOT NULL REFERENCES dept);";
+
+#[test]
+fn each_query_is_read_or_refused(rt: HostRuntime) -> Result<(), Fail> {
+    let cases = [
+        ("SELECT ename FROM emp WHERE sal < 0;", "query 1 at 0..35\n"),
+        (
+            "SELECT enam FROM emp; SELECT ename FROM emp WHERE sal < 0;",
+            "query 1 at 0..20\n  refused 22 UnknownColumn at 7..11\nquery 2 at 22..57\n",
+        ),
+        ("SELECT ename # FROM emp;", "query 1 at 0..23\n  refused 1 BadByte at 13..14\n"),
+        ("SELECT 'a FROM emp;", "query 1 at 0..19\n  refused 2 OpenQuote at 7..8\n"),
+        (
+            "SELECT ename FROM emp WHERE sal > 9223372036854775808;",
+            "query 1 at 0..53\n  refused 3 BigNumber at 34..53\n",
+        ),
+        ("SELECT ename FROM emps;", "query 1 at 0..22\n  refused 21 UnknownTable at 18..22\n"),
+        (
+            "SELECT deptno FROM emp, dept;",
+            "query 1 at 0..28\n  refused 23 AmbiguousColumn at 7..13\n",
+        ),
+        (
+            "SELECT ename FROM emp e, dept e;",
+            "query 1 at 0..31\n  refused 24 DuplicateName at 30..31\n",
+        ),
+        (
+            "SELECT ename FROM emp WHERE ename > 'A';",
+            "query 1 at 0..39\n  refused 25 TypeMismatch at 28..39\n",
+        ),
+        (
+            "SELECT ename FROM emp WHERE sal = (SELECT * FROM dept);",
+            "query 1 at 0..54\n  refused 28 OneColumnNeeded at 34..54\n",
+        ),
+        (
+            "SELECT DISTINCT e.ename, d.dname FROM emp e JOIN dept d ON e.deptno = d.deptno, dept x WHERE x.loc IS NOT NULL AND EXISTS (SELECT * FROM emp v WHERE v.empno = e.empno AND v.sal + 1 > 8) AND e.deptno IN (SELECT deptno FROM dept WHERE loc = 'BOSTON') ORDER BY e.ename, 2 DESC",
+            "query 1 at 0..273\n",
+        ),
+    ];
+    for (queries, text) in cases {
+        let case = Case {
+            schema: COMPANY,
+            ..plain(queries, 6, text)
+        };
+        let (status, got) = status_and_text(rt.alloc(), &["s", "q"], &case)?;
+        assert_eq!(rt; got.as_slice(), text.as_bytes(), "{queries}");
+        assert_eq!(rt; status, 6, "{queries}");
+    }
+    Ok(())
+}
+
+#[test]
+fn each_schema_is_read_or_refused(rt: HostRuntime) -> Result<(), Fail> {
+    let cases = [
+        (
+            "CREATE TABLE a (x INTEGER REFERENCES b); CREATE TABLE b (y INTEGER);",
+            "stop SchemaRefused 26 NotAKey at 26..38\n",
+        ),
+        ("CREATE TABLE t (c VARCHAR(0));", "stop SchemaRefused 29 BadLength at 26..27\n"),
+        (
+            "CREATE TABLE t (a INTEGER, A INTEGER);",
+            "stop SchemaRefused 24 DuplicateName at 27..28\n",
+        ),
+        (
+            "CREATE TABLE t (a INTEGER, CHECK (b > 0));",
+            "stop SchemaRefused 22 UnknownColumn at 34..35\n",
+        ),
+        (
+            "CREATE TABLE t (a INTEGER REFERENCES u);",
+            "stop SchemaRefused 21 UnknownTable at 37..38\n",
+        ),
+    ];
+    for (schema, text) in cases {
+        let case = Case {
+            schema,
+            ..plain("", 2, text)
+        };
+        let (status, got) = status_and_text(rt.alloc(), &["s", "q"], &case)?;
+        assert_eq!(rt; got.as_slice(), text.as_bytes(), "{schema}");
+        assert_eq!(rt; status, 2, "{schema}");
     }
     Ok(())
 }

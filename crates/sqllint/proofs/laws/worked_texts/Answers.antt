@@ -14,7 +14,11 @@ returns-clause-not_always c table query name e = rw (name, e) refl
 
 pub returns-clause-refused : goal.returns-clause-refused
 unfolding digits span_text refusal_text fault_text query_line result_text
-returns-clause-refused c schema = refl
+returns-clause-refused c schema query = refl
+
+pub returns-clause-long : goal.returns-clause-long
+unfolding digits span_text refusal_text fault_text query_line result_text
+returns-clause-long c schema = refl
 
 pub returns-clause-schema_refused : goal.returns-clause-schema_refused
 unfolding digits span_text refusal_text fault_text schema_refused_text stop_text
