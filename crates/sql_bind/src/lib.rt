@@ -15,3 +15,6 @@ mod names;
 mod predicates;
 mod selects;
 mod terms;
+mod stub;
+
+pub use stub::{bind_query, bind_schema};
