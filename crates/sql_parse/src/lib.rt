@@ -23,4 +23,6 @@ pub use queries::parse_query;
 pub use schemas::parse_schema;
 
 #[cfg(test)]
+mod query_tests;
+#[cfg(test)]
 mod schema_tests;

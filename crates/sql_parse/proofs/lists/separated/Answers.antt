@@ -1,4 +1,4 @@
-use Rattle.std.proofs.Common.{◌<◌, length, sym, subst, ◌∙◌, arith, Ok}
+use Rattle.std.proofs.Common.{◌<◌, length, sym, subst, ◌∙◌, arith, Ok, Err}
 use Rattle.std.proofs.lemmas.Result.{err_from_is_err_and}
 use Rattle.sql_parse.specs.reading.Gives.{Stops, is_mark}
 use Rattle.sql_parse.proofs.Separated.{gathered_start, gathered_step, gathered_end, stops_first, stops_later}
@@ -29,7 +29,7 @@ returns-in_err-other g c = λ read short gives.
     rw (p.1, p.2)
     (subst (λ r. Stops r e) (c.loop-after.invariant read short gives)
     (stops_later (is_mark c.args.mark) read e c.loop-after.parts c.loop-after.rest.now c.in-Some.after.now c.in-Some.field-0-0.now c.in-Some.ensures.0 c.in-Some.ensures.1
-    (gives c.in-Some.after _ c.in_err-other.ensures)))
+    (gives c.in-Some.after (Err e) c.in_err-other.ensures)))
 
 pub returns : goal.returns
 returns g c = λ read short gives.
