@@ -156,12 +156,23 @@ fn place_of(cond: &CondTree) -> Span {
     }
 }
 
-/// The condition of the query that the text is, and where it stands.
-fn condition_of(rt: &impl Abort, alloc: Global, text: &str) -> Result<(String, Span), Fail> {
-    let query = query_of(rt, alloc, text)?;
-    match &query.select.filter {
-        Some(filter) => Ok((shown_cond(alloc, filter)?, place_of(filter))),
-        None => Ok((String::new(alloc), query.select.span)),
+/// The WHERE of the query, and where its predicate stands.
+fn shown_filter(alloc: Global, filter: &Option<CondTree>) -> Result<(String, Span), AllocError> {
+    match filter {
+        Some(cond) => Ok((shown_cond(alloc, cond)?, place_of(cond))),
+        None => Ok((String::new(alloc), Span { from: 0, to: 0 })),
+    }
+}
+
+fn shown_condition(alloc: Global, query: &QueryTree) -> Result<(String, Span), AllocError> {
+    shown_filter(alloc, &query.select.filter)
+}
+
+/// The same of the query that the text is; of another text nothing.
+fn condition_of(rt: &impl Abort, alloc: Global, text: &str) -> Result<(String, Span), AllocError> {
+    match query_of(rt, alloc, text) {
+        Ok(query) => shown_condition(alloc, &query),
+        Err(_) => Ok((String::new(alloc), Span { from: 0, to: 0 })),
     }
 }
 
@@ -340,15 +351,22 @@ fn shown_query(alloc: Global, query: &QueryTree) -> Result<String, AllocError> {
     Ok(all)
 }
 
-/// The query that the text is, the place of its SELECT and that of its DISTINCT.
+/// What stands in the query, the place of its SELECT and that of its DISTINCT.
+fn outline(alloc: Global, query: &QueryTree) -> Result<(String, Span, Option<Span>), AllocError> {
+    let shown = shown_query(alloc, query)?;
+    Ok((shown, query.select.span, query.select.distinct))
+}
+
+/// The same of the query that the text is; of another text nothing.
 fn outline_of(
     rt: &impl Abort,
     alloc: Global,
     text: &str,
-) -> Result<(String, Span, Option<Span>), Fail> {
-    let query = query_of(rt, alloc, text)?;
-    let shown = shown_query(alloc, &query)?;
-    Ok((shown, query.select.span, query.select.distinct))
+) -> Result<(String, Span, Option<Span>), AllocError> {
+    match query_of(rt, alloc, text) {
+        Ok(query) => outline(alloc, &query),
+        Err(_) => Ok((String::new(alloc), Span { from: 0, to: 0 }, None)),
+    }
 }
 
 #[test]
@@ -440,7 +458,7 @@ fn refusals(rt: HostRuntime) {
 fn parentheses(rt: HostRuntime) -> Result<(), Fail> {
     let shallow =
         "SELECT a FROM t WHERE ((((((((((((((((((((((((((((((((a = 1))))))))))))))))))))))))))))))))";
-    query_of(&rt, rt.alloc(), shallow)?;
+    assert_eq!(rt; query_of(&rt, rt.alloc(), shallow).err(), None);
     let deep = "SELECT a FROM t WHERE (((((((((((((((((((((((((((((((((a = = 1";
     let stop = query_of(&rt, rt.alloc(), deep).err();
     assert_eq!(rt; stop, refused(Fault::Deep, 54, 55, 0));
