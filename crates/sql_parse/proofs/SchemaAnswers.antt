@@ -1,5 +1,5 @@
 -- What the reading of a schema says of the grammar.
-use Rattle.std.proofs.Common.{◌≡◌, List, Some, None, refl, sym, ◌∙◌}
+use Rattle.std.proofs.Common.{◌≡◌, List, Some, None, refl}
 use Rattle.lint_base.specs.declared.place.Span.{Span}
 use Rattle.lint_base.specs.declared.place.Fault.TheVariants.{Deep, Syntax}
 use Rattle.lint_base.specs.declared.place.Refusal.{Refusal}

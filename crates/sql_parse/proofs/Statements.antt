@@ -1,10 +1,10 @@
 -- Reading statement after statement.
-use Rattle.std.proofs.Common.{◌≡◌, ℕ, suc, ◌+◌, ◌<◌, ◌≤◌, Bool, true, false, List, [], ◌∷◌, ◌++◌, length, Some, None, refl, sym, ap, ◌∙◌, arith}
+use Rattle.std.proofs.Common.{◌≡◌, ℕ, ◌+◌, ◌<◌, true, false, List, [], ◌++◌, length, refl, sym, ap, ◌∙◌}
 use Rattle.sql_lex.specs.declared.token.Token.{Token}
 use Rattle.sql_tree.specs.declared.schema.CreateTable.{CreateTable}
 use Rattle.sql_parse.specs.declared.front.ParseStop.{ParseStop}
 use Rattle.sql_parse.specs.declared.front.ParseStop.TheVariants as stop
-use Rattle.sql_parse.specs.reading.Tokens.{Read, found, and_then, is_semicolon, at_head, expect, read_parts, read_after}
+use Rattle.sql_parse.specs.reading.Tokens.{Read, found, and_then, is_semicolon, at_head, expect, read_after}
 use Rattle.sql_parse.specs.reading.Gives.{Stops}
 use Rattle.sql_parse.specs.reading.Schemas.{read_statement, read_next_statement, read_schema}
 use Rattle.sql_parse.proofs.Shorter.{next_statement_below, next_statement_shorter}

@@ -1,4 +1,4 @@
-use Rattle.std.proofs.Common.{◌≡◌, Some, Err, sym, subst, ◌∙◌}
+use Rattle.std.proofs.Common.{Err, sym, subst, ◌∙◌}
 use Rattle.sql_parse.specs.Refusals.{IsSchema}
 use Rattle.sql_parse.specs.reading.Leaves.{GivesWhole}
 use Rattle.sql_parse.specs.reading.Schemas.{schema_of}

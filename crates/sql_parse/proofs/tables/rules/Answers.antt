@@ -1,4 +1,4 @@
-use Rattle.std.proofs.Common.{◌≡◌, false, true, List, [], length, sym, ◌∙◌}
+use Rattle.std.proofs.Common.{◌≡◌, false, true, length, sym, ◌∙◌}
 use Rattle.std.proofs.lemmas.Result.{err_from_is_err_and}
 use Rattle.sql_parse.specs.reading.Tokens.{found, at_head}
 use Rattle.sql_parse.specs.reading.Leaves.{alone}
