@@ -1,5 +1,5 @@
 -- The loops over the parts of a condition: where a part is not read, and where all are.
-use Rattle.std.proofs.Common.{◌≡◌, ℕ, zero, suc, ◌-◌, ◌≢◌, Bool, true, false, List, Some, None, refl, sym, ap, ◌∙◌, arith}
+use Rattle.std.proofs.Common.{◌≡◌, ℕ, zero, suc, ◌-◌, ◌≢◌, Bool, true, false, List, refl, sym, ap, ◌∙◌, arith}
 use Rattle.sql_lex.specs.declared.token.Token.{Token}
 use Rattle.sql_tree.specs.declared.select.CondTree.{CondTree}
 use Rattle.sql_tree.specs.declared.select.CondTree.TheVariants.{And, Or}

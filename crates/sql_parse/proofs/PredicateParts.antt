@@ -1,5 +1,5 @@
 -- Which part of a predicate is read after its term.
-use Rattle.std.proofs.Common.{◌≡◌, Bool, true, false, if◌then◌else◌, List, [], ◌∷◌, Option, Some, None, Result, refl, sym, ap, subst, ◌∙◌}
+use Rattle.std.proofs.Common.{◌≡◌, Bool, true, false, if◌then◌else◌, List, [], ◌∷◌, Some, None, Result, refl, sym, ap, subst, ◌∙◌}
 use Rattle.std.specs.Borrow.{Bor}
 use Rattle.lint_tables.specs.declared.op.Op.{Op}
 use Rattle.sql_lex.specs.declared.token.Sign.TheVariants.{Compare as Operator}

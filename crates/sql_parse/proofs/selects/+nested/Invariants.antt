@@ -1,4 +1,4 @@
-use Rattle.std.proofs.Common.{◌≡◌, ℕ, ◌+◌, ◌*◌, length}
+use Rattle.std.proofs.Common.{◌≡◌, ◌+◌, ◌*◌, length}
 use Rattle.sql_parse.specs.reading.Tokens.{is_word, read_separated}
 use Rattle.sql_parse.specs.grammar.Words.{AND, OR}
 use Rattle.sql_parse.specs.reading.Selects.{read_cond, read_conjunction, read_factor, read_group, read_groups}
