@@ -8,3 +8,4 @@ pub mod LexScan
 pub mod LexAgain
 pub mod LexFaults
 pub mod LexSteps
+pub mod LexFew

@@ -42,6 +42,7 @@ pub fn lex(alloc: Global, text: &[u8], part: Span) -> Result<Vec<Token>, TextSto
     requires within { part.to ≤ length text.now }
     requires short { length text.now < 2 ^ 32 }
     ensures tokens { IfOk result (λ tokens. Spells part.from (slice_range text.now part.from part.to) tokens.items) }
+    ensures few { IfOk result (λ tokens. length tokens.items ≤ length text.now) }
     ensures refused { IfErr result (λ stop. IsRefused part.from (slice_range text.now part.from part.to) stop) }
 {
     let mut tokens = Vec::new(alloc);

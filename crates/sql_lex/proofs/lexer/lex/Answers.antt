@@ -1,7 +1,8 @@
-use Rattle.std.proofs.Common.{◌≡◌, ◌-◌, length, slice_range, List, ℕ, sym, subst, ◌∙◌, arith}
-use Rattle.std.proofs.lemmas.List.{take_rest, length-drop}
+use Rattle.std.proofs.Common.{◌≡◌, ◌≤◌, ◌-◌, length, slice_range, List, ℕ, sym, subst, ◌∙◌, arith}
+use Rattle.std.proofs.lemmas.List.{take_rest, length-drop, length-take}
 use Rattle.sql_lex.specs.declared.lex_found.Found.TheVariants.{Lexeme, Flaw}
 use Rattle.sql_lex.proofs.LexScan.{Reads, nonempty, empty, front_found, scan_more, scan_ends, scan_stops}
+use Rattle.sql_lex.proofs.LexFew.{part_tokens_are_few}
 use Rattle.sql_lex.proofs.lexer.lex.Goals as goal
 
 pub returns-then-is_empty-clause-tokens : goal.returns-then-is_empty-clause-tokens
@@ -9,6 +10,12 @@ returns-then-is_empty-clause-tokens c =
     let inner = c.after_gap-inner.result.now in
     scan_ends (slice_range c.args.text.now c.args.part.from c.args.part.to) c.args.part.from c.args.part.to c.loop-inner.tokens.items c.loop-inner.rest.now inner
     c.loop-inner.invariant c.after_gap-inner.ensures.rest (empty c.is_empty.result inner c.is_empty.ensures c.if-is_empty.true)
+
+pub returns-then-is_empty-clause-few : goal.returns-then-is_empty-clause-few
+returns-then-is_empty-clause-few c =
+    let part = slice_range c.args.text.now c.args.part.from c.args.part.to in
+    let within : length part ≤ length c.args.text.now = omega (arith, length-take {A = ℕ}, length-drop {A = ℕ}) in
+    part_tokens_are_few c.args.part.from c.args.text.now part c.loop-inner.tokens.items within (returns-then-is_empty-clause-tokens c)
 
 pub overflow_cast-to : goal.overflow_cast-to
 overflow_cast-to c =
