@@ -1,4 +1,5 @@
 pub mod PartLemmas
+pub mod RunLemmas
 pub mod LexFront
 pub mod LexSpelling
 pub mod LexGaps

@@ -1,26 +1,15 @@
--- The pieces of a text, byte by byte: of the part that has begun only its first and its last solid byte count.
+-- The pieces of a text, by what is still to come.
 use Rattle.std.proofs.Common.{◌≡◌, ℕ, suc, ◌+◌, ◌≤◌, List, [], ◌∷◌, ◌++◌, length, Option, Some, None, refl, sym, ◌∙◌, ap, arith, length-append, append-nil}
-use Rattle.std.specs.Prelude.{option_to_list, MatchOption, true, false, ◌&&◌, nat_eq, if◌then◌else◌, All, IfSome}
+use Rattle.std.specs.Prelude.{option_to_list, MatchOption, is_some, true, false, ◌&&◌, nat_eq, if◌then◌else◌, All, IfSome}
 use Rattle.std.specs.Iterator.{MakesProgress, YieldsFirst, item_count}
 use Rattle.std.specs.Option.{option_map_or}
 use Rattle.std.proofs.lemmas.List.Elements.{All-nil, All-cons, All-append}
 use Rattle.lint_base.specs.declared.place.Span.{Span}
 use Rattle.sql_lex.specs.Bytes.{is_quote}
 use Rattle.sql_lex.specs.Classes.{Class, Blank, Solid, Separator, Inside, Nothing, Comment, Quote, classes, begins_with_dash, blank_or_solid}
+use Rattle.sql_lex.specs.Runs.{grown_to, to_come}
 use Rattle.sql_lex.specs.Within.{IsWithin}
 use Rattle.sql_lex.specs.Pieces.{parts_from, solid_places, last_of, spanned, spans_of, pieces_from, pieces}
-
--- from the first solid byte so far to the one at this offset
-abbrev pub grown_to : Option Span → ℕ → Span
-grown_to None at = record { from = at; to = at + 1 }
-grown_to (Some span) at = record { from = span.from; to = at + 1 }
-
--- what is still to come, where the part that has begun reaches so far
-abbrev pub to_come : Option Span → ℕ → List Class → List Span
-to_come solid at [] = option_to_list solid
-to_come solid at (Separator ∷ cs) = option_to_list solid ++ to_come None (at + 1) cs
-to_come solid at (Blank ∷ cs) = to_come solid (at + 1) cs
-to_come solid at (Solid ∷ cs) = to_come (Some (grown_to solid at)) (at + 1) cs
 
 solid_places-blank : (from : ℕ) (cs : List Class) → solid_places from (cs ++ Blank ∷ []) ≡ solid_places from cs
 solid_places-blank from [] = refl
@@ -38,7 +27,7 @@ last_of-append : (place at : ℕ) (places : List ℕ) → last_of place (places 
 last_of-append place at [] = refl
 last_of-append place at (next ∷ places) = last_of-append next at places
 
-spanned-append : (solid : Option Span) (places : List ℕ) (at : ℕ) → option_to_list solid ≡ spanned places → grown_to solid at ∷ [] ≡ spanned (places ++ at ∷ [])
+spanned-append : (solid : Option Span) (places : List ℕ) (at : ℕ) → option_to_list solid ≡ spanned places → grown_to solid at 1 ∷ [] ≡ spanned (places ++ at ∷ [])
 spanned-append None [] at e = refl
 spanned-append None (place ∷ places) at e = cc
 spanned-append (Some span) [] at e = cc
@@ -54,7 +43,7 @@ to_come-parts solid from so_far at (Blank ∷ cs) e same =
     to_come-parts solid from (so_far ++ Blank ∷ []) (at + 1) cs (omega (arith, e, length-append so_far (Blank ∷ [])))
     (same ∙ ap spanned (sym (solid_places-blank from so_far)))
 to_come-parts solid from so_far at (Solid ∷ cs) e same =
-    to_come-parts (Some (grown_to solid at)) from (so_far ++ Solid ∷ []) (at + 1) cs
+    to_come-parts (Some (grown_to solid at 1)) from (so_far ++ Solid ∷ []) (at + 1) cs
     (omega (arith, e, length-append so_far (Solid ∷ [])))
     (spanned-append solid _ at same ∙ ap spanned (sym (solid_places-solid from at so_far e)))
 
@@ -69,26 +58,27 @@ span_is from to span begins ends =
     ap begun (sym begins) ∙ ap ended (sym ends)
 
 -- a span by its ends
-pub grown_is : (solid : Option Span) (at : ℕ) (span : Span) → span.from ≡ option_map_or (λ span. span.from) solid at → span.to ≡ at + 1 → grown_to solid at ≡ span
-grown_is None at span from to = span_is _ _ span from to
-grown_is (Some first) at span from to = span_is _ _ span from to
-
-classes-nil : (inside : Inside) → classes inside [] ≡ []
-classes-nil Nothing = refl
-classes-nil Comment = refl
-classes-nil (Quote mark) = refl
-
-to_come-nil : (solid : Option Span) (inside : Inside) (at : ℕ) → to_come solid at (classes inside []) ≡ option_to_list solid
-to_come-nil solid inside at = ap (to_come solid at) (classes-nil inside)
+pub grown_is : (solid : Option Span) (at len : ℕ) (span : Span) → span.from ≡ option_map_or (λ span. span.from) solid at → span.to ≡ at + len → grown_to solid at len ≡ span
+grown_is None at len span from to = span_is _ _ span from to
+grown_is (Some first) at len span from to = span_is _ _ span from to
 
 -- behind the last byte only the part that has begun is to come
 pub last_piece :
-    (solid : Option Span) (inside : Inside) (at : ℕ) (text : List ℕ) (begins : ℕ) (whole : List ℕ) → length text ≡ 0 →
-    to_come solid at (classes inside text) ≡ to_come None begins (classes Nothing whole) →
+    (solid : Option Span) (at : ℕ) (text : List ℕ) (begins : ℕ) (whole : List ℕ) → length text ≡ 0 →
+    to_come solid at (classes Nothing text) ≡ to_come None begins (classes Nothing whole) →
     MatchOption solid ((pieces_from begins whole ≡ []) × (pieces_from at text ≡ [])) (λ span. pieces_from begins whole ≡ span ∷ pieces_from at text)
-last_piece None inside at [] begins whole empty same = (pieces_to_come begins whole ∙ sym same ∙ to_come-nil None inside at, refl)
-last_piece (Some span) inside at [] begins whole empty same = pieces_to_come begins whole ∙ sym same ∙ to_come-nil (Some span) inside at
-last_piece solid inside at (b ∷ bs) begins whole empty same = absurd (omega (arith, empty))
+last_piece None at [] begins whole empty same = (pieces_to_come begins whole ∙ sym same, refl)
+last_piece (Some span) at [] begins whole empty same = pieces_to_come begins whole ∙ sym same
+last_piece solid at (b ∷ bs) begins whole empty same = absurd (omega (arith, empty))
+
+-- at a separator the part that has begun ends
+pub separated_piece :
+    (solid : Option Span) (at : ℕ) (text : List ℕ) (begins : ℕ) (whole : List ℕ) → is_some solid ≡ true →
+    option_to_list solid ++ to_come None at (classes Nothing text) ≡ to_come None begins (classes Nothing whole) →
+    MatchOption solid ((pieces_from begins whole ≡ []) × (pieces_from at text ≡ [])) (λ span. pieces_from begins whole ≡ span ∷ pieces_from at text)
+separated_piece None at text begins whole some same = absurd cc
+separated_piece (Some span) at text begins whole some same =
+    pieces_to_come begins whole ∙ sym same ∙ ap (λ (spans : List Span). span ∷ spans) (sym (pieces_to_come at text))
 
 -- an iterator that gives the first of what was left makes progress
 pub first_progress :
@@ -121,7 +111,7 @@ wider : (at len : ℕ) (solid : Option Span) → at ≤ len → IfSome solid (Is
 wider at len None more within = tt
 wider at len (Some span) more within = (within.0, omega arith)
 
-grown-within : (solid : Option Span) (at : ℕ) → IfSome solid (IsWithin at) → IsWithin (at + 1) (grown_to solid at)
+grown-within : (solid : Option Span) (at : ℕ) → IfSome solid (IsWithin at) → IsWithin (at + 1) (grown_to solid at 1)
 grown-within None at within = (omega arith, omega arith)
 grown-within (Some span) at within = (omega (arith, within.0, within.1), omega arith)
 
@@ -136,7 +126,7 @@ to_come-within solid at (Separator ∷ cs) len within fits =
 to_come-within solid at (Blank ∷ cs) len within fits =
     to_come-within solid (at + 1) cs len (wider at (at + 1) solid (omega arith) within) (omega (arith, fits))
 to_come-within solid at (Solid ∷ cs) len within fits =
-    to_come-within (Some (grown_to solid at)) (at + 1) cs len (grown-within solid at within) (omega (arith, fits))
+    to_come-within (Some (grown_to solid at 1)) (at + 1) cs len (grown-within solid at within) (omega (arith, fits))
 
 -- each piece has bytes, and the text has them
 pub pieces_within : (text : List ℕ) → All (IsWithin (length text)) (pieces text)

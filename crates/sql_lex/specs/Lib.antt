@@ -5,6 +5,7 @@ pub mod Gaps
 pub mod Tokens
 pub mod Faults
 pub mod Seen
+pub mod Runs
 pub mod Rest
 pub mod Refused
 pub mod Lexing

@@ -3,7 +3,7 @@
 //! The layer above may use every public item. Of `specs/` a reader must believe `Classes`, `Pieces` and
 //! `Rest` (how a file falls into pieces, and which are still to come), `Within` (where they lie), `Bytes`,
 //! `Gaps` and `Tokens` (how a piece is spelled), `Faults` and `Refused` (which refusal comes first).
-//! `Lexing` and `Seen` only retell the code. `one_lexing` proves that a piece has at most one list of
+//! `Lexing`, `Runs` and `Seen` only retell the code. `one_lexing` proves that a piece has at most one list of
 //! tokens, at most one first fault, and not both.
 #![tactic(auto)]
 

@@ -2,7 +2,7 @@
 ghost use Rattle.std.specs.Prelude.{◌≡◌, ◌+◌, ◌<◌, ◌^◌, length};
 ghost use Rattle.std.specs.Option.{option_map_or};
 
-use crate::classes::{Class, Inside, step};
+use crate::classes::{Class, Run, first_run};
 use lint_base::Span;
 
 /// The pieces of a text that are still to come.
@@ -26,15 +26,15 @@ impl<'a> Pieces<'a> {
     }
 }
 
-// From the first solid byte of a part to the one at this offset.
-fn grown(solid: Option<Span>, at: u32) -> Span
-    requires { at + 1 < 2 ^ 32 }
+// From the first solid byte of a part to the end of a run of solid bytes at this offset.
+fn grown(solid: Option<Span>, at: u32, len: u32) -> Span
+    requires { at + len < 2 ^ 32 }
     ensures from { result.from ≡ option_map_or (λ span. span.from) solid at }
-    ensures to { result.to ≡ at + 1 }
+    ensures to { result.to ≡ at + len }
 {
     Span {
         from: solid.map_or(at, |span| span.from),
-        to: at + 1,
+        to: at + len,
     }
 }
 
@@ -50,24 +50,22 @@ impl Iterator for Pieces<'_> {
 
     #[tactic(auto, using(crate::proofs::PartLemmas::pieces_to_come, crate::proofs::PartLemmas::grown_is))]
     fn next(&mut self) -> Option<Span> {
-        let mut inside = Inside::Nothing;
         // from the first to the last solid byte of the part, so far
         let mut solid = None;
-        while let Some((byte, after)) = self.text.split_first() {
+        while !self.text.is_empty() {
+            let Run { class, len } = first_run(self.text);
             let at = self.at;
-            let (class, inside_after) = step(inside, *byte, after);
-            self.text = after;
-            self.at += 1;
+            self.text = &self.text[len..];
+            self.at += len as u32;
             match class {
                 Class::Blank => {}
-                Class::Solid => solid = Some(grown(solid, at)),
+                Class::Solid => solid = Some(grown(solid, at, len as u32)),
                 Class::Separator => {
                     if solid.is_some() {
                         return solid;
                     }
                 }
             }
-            inside = inside_after;
         }
         solid
     }

@@ -37,7 +37,7 @@ mod tests {
 
     #[test]
     fn worked_texts(rt: HostRuntime) -> Result<(), Fail> {
-        let table: [(&[u8], &[(u32, u32)]); 10] = [
+        let table: [(&[u8], &[(u32, u32)]); 12] = [
             (b"", &[]),
             (b" ; ;", &[]),
             (b"SELECT 1", &[(0, 8)]),
@@ -48,6 +48,8 @@ mod tests {
             (b"\"a;b\" c;d", &[(0, 7), (8, 9)]),
             (b"'a ; b", &[(0, 6)]),
             (b"'a  ", &[(0, 2)]),
+            (b"a '  ", &[(0, 3)]),
+            (b"a -- ;", &[(0, 1)]),
         ];
         for (text, expected) in table {
             assert!(rt; text.len() < 1000);
