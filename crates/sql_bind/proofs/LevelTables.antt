@@ -36,3 +36,6 @@ seen_inside entries first end outer = ap levels_seen (sym (levels.rolls-Inside e
 
 pub tables_inside : (entries : Bor (List Entry)) (first end : ℕ) (outer : Bor Levels) → level_tables (levels_seen (levels.Inside entries first end outer)) ≡ level_tables (levels_seen outer.now) ++ tables_of entries.now ∷ []
 tables_inside entries first end outer = ap level_tables (seen_inside entries first end outer) ∙ reverse-cons (tables_of entries.now) (map (λ (level : Level). tables_of level.entries) (levels_seen outer.now))
+
+pub seen_outside : levels_seen levels.Outside ≡ []
+seen_outside = ap levels_seen (sym levels.rolls-Outside) ∙ fold-roll-Levels (List Level) levels_step Levels-F.Outside

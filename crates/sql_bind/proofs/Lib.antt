@@ -1,10 +1,3 @@
-pub mod NameTables
-pub mod LevelTables
-pub mod ColumnsFound
-pub mod Values
-pub mod Entries
-pub mod TreeMeanings
-pub mod Parts
 mod FitsAlike
 mod FitsBound
 mod FitsColumns
@@ -17,7 +10,20 @@ mod FitsLists
 mod FitsNamed
 mod FitsNames
 mod FitsPredicates
-pub mod FitsQueries
 mod FitsRules
-pub mod FitsSchemas
 mod FitsTerms
+mod Loops
+mod Passes
+mod SchemaMade
+mod Tables
+mod Targets
+pub mod ColumnsFound
+pub mod Entries
+pub mod FitsQueries
+pub mod FitsSchemas
+pub mod LevelTables
+pub mod NameTables
+pub mod Parts
+pub mod QueryAnswers
+pub mod TreeMeanings
+pub mod Values

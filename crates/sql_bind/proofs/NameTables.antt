@@ -23,8 +23,8 @@ pub same_text : (text name : List ℕ) → chars text ≡ name → text ≡ enco
 same_text text name characters bytes key valid =
     let is : encode_utf8_all (chars key) ≡ key = (bytes_eq-Decides (encode_utf8_all (chars key)) key).0 valid in
     same_tests (bytes_eq text key) (bytes_eq (chars key) name)
-      (λ h. (bytes_eq-Decides (chars key) name).1 (sym (ap chars ((bytes_eq-Decides text key).0 h)) ∙ characters))
-      (λ h. (bytes_eq-Decides text key).1 (bytes ∙ ap encode_utf8_all (sym ((bytes_eq-Decides (chars key) name).0 h)) ∙ is))
+    (λ h. (bytes_eq-Decides (chars key) name).1 (sym (ap chars ((bytes_eq-Decides text key).0 h)) ∙ characters))
+    (λ h. (bytes_eq-Decides text key).1 (bytes ∙ ap encode_utf8_all (sym ((bytes_eq-Decides (chars key) name).0 h)) ∙ is))
 
 first_true : (a b : Bool) → (a && b) ≡ true → a ≡ true
 first_true true b h = refl

@@ -28,3 +28,17 @@ module _ (schema : List Table) (levels : List Level) where
       ap (λ t. cond_meaning schema t levels) (sym (tree.rolls-Or parts))
       ∙ ap (λ m. m levels) (fold-roll-CondTree CondMeaning EntryMeaning SelectMeaning (cond_step schema) (entry_step schema) (select_step schema) (CondTree-F.Or parts))
       ∙ ap (λ bounds. and_then (all_bound bounds) (λ conds. Ok (Or conds))) (at_levels parts)
+
+  pub and_made : (t : CondTree) (parts items : List CondTree) (conds : List Cond) → t ≡ tree.And parts → items ≡ parts → all_bound (map (bind_cond schema levels) items) ≡ Ok conds → bind_cond schema levels t ≡ Ok (And conds)
+  unfolding and_then
+  and_made t parts items conds is same bound =
+      ap (bind_cond schema levels) is ∙ and_bound parts
+      ∙ ap (λ ps. and_then (all_bound (map (bind_cond schema levels) ps)) (λ conds. Ok (And conds))) (sym same)
+      ∙ ap (λ b. and_then b (λ conds. Ok (And conds))) bound
+
+  pub or_made : (t : CondTree) (parts items : List CondTree) (conds : List Cond) → t ≡ tree.Or parts → items ≡ parts → all_bound (map (bind_cond schema levels) items) ≡ Ok conds → bind_cond schema levels t ≡ Ok (Or conds)
+  unfolding and_then
+  or_made t parts items conds is same bound =
+      ap (bind_cond schema levels) is ∙ or_bound parts
+      ∙ ap (λ ps. and_then (all_bound (map (bind_cond schema levels) ps)) (λ conds. Ok (Or conds))) (sym same)
+      ∙ ap (λ b. and_then b (λ conds. Ok (Or conds))) bound

@@ -31,8 +31,12 @@ module _ (schema : List Table) where
   -- a SELECT's tree means what its parts mean
   abbrev pub select_layer : SelectTree → SelectTree-F CondMeaning EntryMeaning SelectMeaning
   select_layer tree = record {
-    distinct = (out-SelectTree tree).distinct; items = (out-SelectTree tree).items; from = map (entry_meaning schema) (out-SelectTree tree).from;
-    filter = filter_meaning schema (out-SelectTree tree).filter; span = (out-SelectTree tree).span }
+    distinct = (out-SelectTree tree).distinct;
+    items = (out-SelectTree tree).items;
+    from = map (entry_meaning schema) (out-SelectTree tree).from;
+    filter = filter_meaning schema (out-SelectTree tree).filter;
+    span = (out-SelectTree tree).span;
+  }
 
   select_mapped : (distinct : Option Span) (items : List ItemTree) (from : List EntryTree) (filter : Option CondTree) (span : Span) →
       select_step schema (map-SelectTree CondTree EntryTree SelectTree CondMeaning EntryMeaning SelectMeaning (cond_meaning schema) (entry_meaning schema) (select_meaning schema) (record { distinct = distinct; items = items; from = from; filter = filter; span = span }))

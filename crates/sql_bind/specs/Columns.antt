@@ -57,9 +57,9 @@ module _ (all : List RuleTree) where
       if is_some (column_place earlier name.text)
       then refused DuplicateName name.span
       else and_then (bind_type kind) (λ domain.
-        if nat_le 64 (length earlier)
-        then too_many 65 name.span
-        else Ok (record { name = name.text; domain = domain; not_null = is_marked rules all name.text }))
+      if nat_le 64 (length earlier)
+      then too_many 65 name.span
+      else Ok (record { name = name.text; domain = domain; not_null = is_marked rules all name.text }))
 
   -- the columns after these
   unfoldable pub bind_columns : List Column → List Element → Bound (List Column)

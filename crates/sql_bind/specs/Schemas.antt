@@ -16,18 +16,12 @@ use Rattle.lint_core.specs.declared.schema.ForeignKey.{ForeignKey}
 use Rattle.lint_core.specs.declared.schema.Table.{Table}
 use Rattle.lint_core.specs.Fits.{count_conditions}
 use Rattle.lint_core.specs.Schema.{are_columns_of, are_paired}
+pub use Rattle.sql_bind.specs.declared.schemas.Constraints.{Constraints}
 use Rattle.sql_bind.specs.Bound.{Bound, refused, too_many, and_then}
 use Rattle.sql_bind.specs.Names.{Level, whole_level, table_place, column_place}
 use Rattle.sql_bind.specs.Selects.{bind_cond}
 use Rattle.sql_bind.specs.Columns.{rules_of, bind_outlines}
 use Rattle.sql_bind.specs.Keys.{bind_names, primary_key, named_keys, key_rules, option_list}
-
--- the constraints of a table
-pub record Constraints : Type 0 where
-  pub primary : Option Key
-  pub unique : List Key
-  pub checks : List Cond
-  pub foreign : List ForeignKey
 
 abbrev pub no_constraints : Constraints
 no_constraints = record { primary = None; unique = []; checks = []; foreign = [] }
@@ -69,8 +63,8 @@ module _ (outlines : List Table) (trees : List CreateTable) where
     paired number target columns at (Some targets) =
         if are_a_key number target columns targets
         then (if are_paired table target columns targets
-          then Ok (record { columns = columns; target = number; target_columns = targets })
-          else refused TypeMismatch at)
+        then Ok (record { columns = columns; target = number; target_columns = targets })
+        else refused TypeMismatch at)
         else refused NotAKey at
 
     -- the target is the table of this number

@@ -8,7 +8,10 @@ ghost use Rattle.sql_bind.specs.Levels.{levels_seen};
 ghost use Rattle.sql_bind.specs.Meanings.{GivesOption, option_list, entry_meaning, filter_meaning, select_meaning};
 
 use crate::levels::Levels;
-use crate::predicates::{all_of, bind_between, bind_in_list, compare, compares_selected, is_null, matching, one_column};
+use crate::lists::with;
+use crate::predicates::{
+    all_of, bind_between, bind_in_list, compare, compares_selected, is_null, matching, one_column,
+};
 use crate::selects::{BoundSelect, bind_entries, bind_items};
 use crate::terms::bind_term;
 use lint_base::{Items, NoMemory, Span, TextStop};
@@ -21,7 +24,12 @@ use std::alloc::Global;
 /// A condition, at the FROM lists around it.
 #[cycle(bind)]
 #[tactic(auto, unfolding(crate::specs::Bound::and_then))]
-pub(crate) fn bind_condition(alloc: Global, tables: &[Table], tree: &CondTree, levels: &Levels) -> Result<Cond, TextStop>
+pub(crate) fn bind_condition(
+    alloc: Global,
+    tables: &[Table],
+    tree: &CondTree,
+    levels: &Levels,
+) -> Result<Cond, TextStop>
     ensures { Gives (bind_cond tables.now (levels_seen levels.now) tree.now) result }
 {
     match tree {
@@ -80,7 +88,12 @@ pub(crate) fn bind_condition(alloc: Global, tables: &[Table], tree: &CondTree, l
 /// The parts of a condition, from left to right.
 #[cycle(bind)]
 #[tactic(auto, unfolding(crate::specs::Bound::and_then, crate::specs::Bound::all_bound))]
-fn bind_parts(alloc: Global, tables: &[Table], parts: &[CondTree], levels: &Levels) -> Result<Items<Cond>, TextStop>
+fn bind_parts(
+    alloc: Global,
+    tables: &[Table],
+    parts: &[CondTree],
+    levels: &Levels,
+) -> Result<Items<Cond>, TextStop>
     ensures { Gives (all_bound (map (bind_cond tables.now (levels_seen levels.now)) parts.now)) result }
 {
     let mut conds = Items::new(alloc);
@@ -94,7 +107,15 @@ fn bind_parts(alloc: Global, tables: &[Table], parts: &[CondTree], levels: &Leve
 /// A comparison with a subquery.
 #[cycle(bind)]
 #[tactic(auto, unfolding(crate::specs::Bound::and_then))]
-fn bind_scalar(alloc: Global, tables: &[Table], select: &SelectTree, levels: &Levels, op: Op, left: &TermTree, span: Span) -> Result<Cond, TextStop>
+fn bind_scalar(
+    alloc: Global,
+    tables: &[Table],
+    select: &SelectTree,
+    levels: &Levels,
+    op: Op,
+    left: &TermTree,
+    span: Span,
+) -> Result<Cond, TextStop>
     ensures { Gives (cond_step tables.now (CondTree-F.Scalar op left.now (select_meaning tables.now select.now) span) (levels_seen levels.now)) result }
 {
     let left = bind_term(alloc, tables, left, levels)?;
@@ -119,7 +140,15 @@ fn bind_scalar(alloc: Global, tables: &[Table], select: &SelectTree, levels: &Le
 /// IN over a subquery, or NOT IN.
 #[cycle(bind)]
 #[tactic(auto, unfolding(crate::specs::Bound::and_then))]
-fn bind_in_select(alloc: Global, tables: &[Table], select: &SelectTree, levels: &Levels, term: &TermTree, negated: bool, span: Span) -> Result<Cond, TextStop>
+fn bind_in_select(
+    alloc: Global,
+    tables: &[Table],
+    select: &SelectTree,
+    levels: &Levels,
+    term: &TermTree,
+    negated: bool,
+    span: Span,
+) -> Result<Cond, TextStop>
     ensures { Gives (cond_step tables.now (CondTree-F.InSelect term.now (select_meaning tables.now select.now) negated span) (levels_seen levels.now)) result }
 {
     let term = bind_term(alloc, tables, term, levels)?;
@@ -144,12 +173,23 @@ fn bind_in_select(alloc: Global, tables: &[Table], select: &SelectTree, levels: 
 /// A SELECT, at the FROM lists around it.
 #[cycle(bind)]
 #[tactic(auto, unfolding(crate::specs::Bound::and_then))]
-pub(crate) fn bind_select(alloc: Global, tables: &[Table], tree: &SelectTree, outer: &Levels) -> Result<BoundSelect, TextStop>
+pub(crate) fn bind_select(
+    alloc: Global,
+    tables: &[Table],
+    tree: &SelectTree,
+    outer: &Levels,
+) -> Result<BoundSelect, TextStop>
     ensures { Gives (bind_select tables.now (levels_seen outer.now) tree.now) result }
 {
     let from = tree.from.as_slice();
     let entries = bind_entries(alloc, tables, from)?;
-    let selected = bind_items(alloc, tables, entries.as_slice(), outer, tree.items.as_slice())?;
+    let selected = bind_items(
+        alloc,
+        tables,
+        entries.as_slice(),
+        outer,
+        tree.items.as_slice(),
+    )?;
     let ons = bind_ons(alloc, tables, from, entries.as_slice(), outer)?;
     let filter = bind_filter(alloc, tables, &tree.filter, entries.as_slice(), outer)?;
     let cond = conjunction(with(ons, filter)?);
@@ -159,17 +199,6 @@ pub(crate) fn bind_select(alloc: Global, tables: &[Table], tree: &SelectTree, ou
         span: tree.span,
     };
     Ok(BoundSelect { selected, block })
-}
-
-/// The conditions, and one more if it is there.
-fn with(conds: Items<Cond>, cond: Option<Cond>) -> Result<Items<Cond>, NoMemory>
-    ensures { IfOk result (λ all. all ≡ conds ++ option_list cond) }
-{
-    let mut conds = conds;
-    if let Some(cond) = cond {
-        conds.push(cond)?;
-    }
-    Ok(conds)
 }
 
 /// The AND of conditions. One stands alone, and none is true.
@@ -185,7 +214,13 @@ fn conjunction(conds: Items<Cond>) -> Cond
 /// The conditions of ON, in text order.
 #[cycle(bind)]
 #[tactic(auto, unfolding(crate::specs::Bound::and_then, crate::specs::Selects::bind_ons))]
-fn bind_ons(alloc: Global, tables: &[Table], trees: &[EntryTree], entries: &[Entry], outer: &Levels) -> Result<Items<Cond>, TextStop>
+fn bind_ons(
+    alloc: Global,
+    tables: &[Table],
+    trees: &[EntryTree],
+    entries: &[Entry],
+    outer: &Levels,
+) -> Result<Items<Cond>, TextStop>
     ensures { Gives (bind_ons tables.now entries.now (levels_seen outer.now) 0 (map (entry_meaning tables.now) trees.now)) result }
 {
     let mut conds = Items::new(alloc);
@@ -199,7 +234,14 @@ fn bind_ons(alloc: Global, tables: &[Table], trees: &[EntryTree], entries: &[Ent
 /// The condition of ON of an entry, which sees the entries of its joined group up to its own.
 #[cycle(bind)]
 #[tactic(auto, unfolding(crate::specs::Bound::and_then))]
-fn bind_on(alloc: Global, tables: &[Table], tree: &EntryTree, entries: &[Entry], number: usize, outer: &Levels) -> Result<Option<Cond>, TextStop>
+fn bind_on(
+    alloc: Global,
+    tables: &[Table],
+    tree: &EntryTree,
+    entries: &[Entry],
+    number: usize,
+    outer: &Levels,
+) -> Result<Option<Cond>, TextStop>
     requires { number < 2 ^ 63 }
     ensures { GivesOption (bind_on tables.now entries.now (levels_seen outer.now) number (entry_meaning tables.now tree.now)) result }
 {
@@ -221,18 +263,19 @@ fn bind_on(alloc: Global, tables: &[Table], tree: &EntryTree, entries: &[Entry],
 /// The condition of WHERE, which sees all entries.
 #[cycle(bind)]
 #[tactic(auto, unfolding(crate::specs::Bound::and_then))]
-fn bind_filter(alloc: Global, tables: &[Table], filter: &Option<CondTree>, entries: &[Entry], outer: &Levels) -> Result<Option<Cond>, TextStop>
+fn bind_filter(
+    alloc: Global,
+    tables: &[Table],
+    filter: &Option<CondTree>,
+    entries: &[Entry],
+    outer: &Levels,
+) -> Result<Option<Cond>, TextStop>
     ensures { GivesOption (bind_filter tables.now entries.now (levels_seen outer.now) (filter_meaning tables.now filter.now)) result }
 {
     match filter {
         None => Ok(None),
         Some(filter) => {
-            let levels = Levels::Inside {
-                entries,
-                first: 0,
-                end: entries.len(),
-                outer: &*outer,
-            };
+            let levels = Levels::whole(entries, &*outer);
             let cond = bind_condition(alloc, tables, filter, &levels)?;
             Ok(Some(cond))
         }

@@ -1,5 +1,5 @@
 //! The FROM lists that a name is looked for in.
-ghost use Rattle.std.specs.Prelude.{◌≡◌, ◌<◌, ◌+◌, ◌-◌, IfOk, IfErr, length, take, drop, slice_get};
+ghost use Rattle.std.specs.Prelude.{◌≡◌, ◌∷◌, ◌<◌, ◌+◌, ◌-◌, IfOk, IfErr, length, take, drop, slice_get};
 ghost use Rattle.lint_core.specs.Fits.{tables_of, table_at};
 ghost use Rattle.sql_bind.specs.Names.{level_tables, whole_level};
 ghost use Rattle.sql_bind.specs.Levels.{levels_seen};
@@ -37,6 +37,20 @@ fn table_of(entries: &[Entry], entry: u32) -> Option<u32>
     match entries.get(entry as usize) {
         Some(found) => Some(found.table),
         None => None,
+    }
+}
+
+impl<'a> Levels<'a> {
+    /// A FROM list, all of whose entries are seen, inside others.
+    pub(crate) fn whole(entries: &'a [Entry], outer: &'a Levels<'a>) -> Levels<'a>
+        ensures { levels_seen result ≡ whole_level entries.now ∷ levels_seen outer.now }
+    {
+        Levels::Inside {
+            entries,
+            first: 0,
+            end: entries.len(),
+            outer,
+        }
     }
 }
 

@@ -9,12 +9,24 @@
 #![tactic(auto)]
 
 mod bound;
+mod columns;
 mod conditions;
+mod foreign;
+mod keys;
 mod levels;
+mod lists;
 mod names;
+mod outlines;
 mod predicates;
+mod queries;
+mod schemas;
 mod selects;
 mod terms;
-mod stub;
 
-pub use stub::{bind_query, bind_schema};
+pub use queries::bind_query;
+pub use schemas::bind_schema;
+
+#[cfg(test)]
+mod schema_tests;
+#[cfg(test)]
+mod tests;

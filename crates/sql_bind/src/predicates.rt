@@ -53,7 +53,15 @@ pub(crate) fn tree_span(tree: &TermTree) -> Span
 
 /// A comparison of two terms.
 #[tactic(auto, unfolding(crate::specs::Bound::and_then))]
-pub(crate) fn compare(alloc: Global, tables: &[Table], levels: &Levels, op: Op, left: &TermTree, right: &TermTree, span: Span) -> Result<Cond, TextStop>
+pub(crate) fn compare(
+    alloc: Global,
+    tables: &[Table],
+    levels: &Levels,
+    op: Op,
+    left: &TermTree,
+    right: &TermTree,
+    span: Span,
+) -> Result<Cond, TextStop>
     ensures { Gives (cond_step tables.now (CondTree-F.Compare op left.now right.now span) (levels_seen levels.now)) result }
 {
     let left = bind_term(alloc, tables, left, levels)?;
@@ -73,7 +81,14 @@ pub(crate) fn compare(alloc: Global, tables: &[Table], levels: &Levels, op: Op, 
 
 /// IS NULL, or IS NOT NULL.
 #[tactic(auto, unfolding(crate::specs::Bound::and_then))]
-pub(crate) fn is_null(alloc: Global, tables: &[Table], levels: &Levels, term: &TermTree, negated: bool, span: Span) -> Result<Cond, TextStop>
+pub(crate) fn is_null(
+    alloc: Global,
+    tables: &[Table],
+    levels: &Levels,
+    term: &TermTree,
+    negated: bool,
+    span: Span,
+) -> Result<Cond, TextStop>
     ensures { Gives (cond_step tables.now (CondTree-F.IsNull term.now negated span) (levels_seen levels.now)) result }
 {
     let term = bind_term(alloc, tables, term, levels)?;
@@ -90,7 +105,15 @@ pub(crate) fn is_null(alloc: Global, tables: &[Table], levels: &Levels, term: &T
 }
 
 /// The two comparisons of BETWEEN.
-fn two_comparisons(alloc: Global, negated: bool, term: Term, low: Term, high: Term, first: Span, second: Span) -> Result<Cond, NoMemory>
+fn two_comparisons(
+    alloc: Global,
+    negated: bool,
+    term: Term,
+    low: Term,
+    high: Term,
+    first: Span,
+    second: Span,
+) -> Result<Cond, NoMemory>
     ensures { IfOk result (λ cond. cond ≡ between negated term low high first second) }
 {
     let again = term.copy(alloc)?;
@@ -121,7 +144,16 @@ fn two_comparisons(alloc: Global, negated: bool, term: Term, low: Term, high: Te
 
 /// BETWEEN, or NOT BETWEEN.
 #[tactic(auto, unfolding(crate::specs::Bound::and_then))]
-pub(crate) fn bind_between(alloc: Global, tables: &[Table], levels: &Levels, term: &TermTree, low: &TermTree, high: &TermTree, negated: bool, span: Span) -> Result<Cond, TextStop>
+pub(crate) fn bind_between(
+    alloc: Global,
+    tables: &[Table],
+    levels: &Levels,
+    term: &TermTree,
+    low: &TermTree,
+    high: &TermTree,
+    negated: bool,
+    span: Span,
+) -> Result<Cond, TextStop>
     ensures { Gives (cond_step tables.now (CondTree-F.Between term.now low.now high.now negated span) (levels_seen levels.now)) result }
 {
     let first = Span {
@@ -140,7 +172,12 @@ pub(crate) fn bind_between(alloc: Global, tables: &[Table], levels: &Levels, ter
 
 /// The values of an IN list.
 #[tactic(auto, unfolding(crate::specs::Conditions::bind_values, crate::specs::Bound::and_then))]
-fn bind_values(alloc: Global, tables: &[Table], levels: &Levels, trees: &[TermTree]) -> Result<Items<Value>, TextStop>
+fn bind_values(
+    alloc: Global,
+    tables: &[Table],
+    levels: &Levels,
+    trees: &[TermTree],
+) -> Result<Items<Value>, TextStop>
     ensures { Gives (bind_values tables.now (levels_seen levels.now) trees.now) result }
 {
     let mut values = Items::new(alloc);
@@ -157,7 +194,12 @@ fn bind_values(alloc: Global, tables: &[Table], levels: &Levels, trees: &[TermTr
 }
 
 /// A comparison of a term with each value.
-fn comparisons(alloc: Global, op: Op, term: &Term, values: Items<Value>) -> Result<Items<Cond>, NoMemory>
+fn comparisons(
+    alloc: Global,
+    op: Op,
+    term: &Term,
+    values: Items<Value>,
+) -> Result<Items<Cond>, NoMemory>
     ensures { IfOk result (λ conds. conds ≡ map (λ v. cond.Compare op term.now v.term v.span) values) }
 {
     let mut conds = Items::new(alloc);
@@ -210,12 +252,21 @@ fn in_list(alloc: Global, negated: bool, term: Term, values: Items<Value>) -> Re
 
 /// IN over a list, or NOT IN.
 #[tactic(auto, unfolding(crate::specs::Bound::and_then))]
-pub(crate) fn bind_in_list(alloc: Global, tables: &[Table], levels: &Levels, term: &TermTree, values: &Items<TermTree>, negated: bool, span: Span) -> Result<Cond, TextStop>
+pub(crate) fn bind_in_list(
+    alloc: Global,
+    tables: &[Table],
+    levels: &Levels,
+    term: &TermTree,
+    values: &Items<TermTree>,
+    negated: bool,
+    span: Span,
+) -> Result<Cond, TextStop>
     ensures { Gives (cond_step tables.now (CondTree-F.InList term.now values.now negated span) (levels_seen levels.now)) result }
 {
     let term = bind_term(alloc, tables, term, levels)?;
     let values = bind_values(alloc, tables, levels, values.as_slice())?;
-    let goes = kind(tables, levels, &term).is_some() && compare_all(tables, levels, &term, values.as_slice());
+    let goes = kind(tables, levels, &term).is_some()
+        && compare_all(tables, levels, &term, values.as_slice());
     let cond = in_list(alloc, negated, term, values)?;
     matching(goes, span, cond)
 }
@@ -224,9 +275,7 @@ pub(crate) fn bind_in_list(alloc: Global, tables: &[Table], levels: &Levels, ter
 fn compare_all(tables: &[Table], levels: &Levels, term: &Term, values: &[Value]) -> bool
     ensures { result ≡ list_all (λ v. compares tables.now (levels_seen levels.now) Eq term.now v.term) values.now }
 {
-    values
-        .iter()
-        .all(|value| compares(tables, levels, Op::Eq, term, &value.term))
+    values.iter().all(|value| compares(tables, levels, Op::Eq, term, &value.term))
 }
 
 /// The one column of a subquery.
@@ -240,15 +289,16 @@ pub(crate) fn one_column(alloc: Global, select: &BoundSelect) -> Result<Term, Te
 }
 
 /// Whether an operator compares a term with what a subquery selects, which stands in the subquery's level.
-pub(crate) fn compares_selected(tables: &[Table], levels: &Levels, op: Op, left: &Term, select: &BoundSelect, item: &Term) -> bool
+pub(crate) fn compares_selected(
+    tables: &[Table],
+    levels: &Levels,
+    op: Op,
+    left: &Term,
+    select: &BoundSelect,
+    item: &Term,
+) -> bool
     ensures { result ≡ compares_selected tables.now (levels_seen levels.now) op left.now select.now item.now }
 {
-    let entries = select.block.entries.as_slice();
-    let inner = Levels::Inside {
-        entries,
-        first: 0,
-        end: entries.len(),
-        outer: &*levels,
-    };
+    let inner = Levels::whole(select.block.entries.as_slice(), &*levels);
     both_compare(op, kind(tables, levels, left), kind(tables, &inner, item))
 }

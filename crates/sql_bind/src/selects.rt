@@ -12,6 +12,7 @@ ghost use Rattle.sql_bind.specs.Meanings.{entry_meaning};
 
 use crate::bound::{counted, refused, too_many};
 use crate::levels::Levels;
+use crate::lists::joined;
 use crate::predicates::tree_span;
 use crate::terms::{bind_term, columns_of, entry_place, table_place};
 use lint_base::{Fault, Items, NoMemory, Span, Str, TextStop};
@@ -63,7 +64,13 @@ fn visible_name<'a>(table: &'a NameTree, alias: &'a Option<NameTree>) -> &'a Nam
 }
 
 /// An entry after others, of a table that is there, with a name of its own.
-fn of_table(alloc: Global, tables: &[Table], earlier: &[Entry], tree: &EntryTree, span: Span) -> Result<Entry, TextStop>
+fn of_table(
+    alloc: Global,
+    tables: &[Table],
+    earlier: &[Entry],
+    tree: &EntryTree,
+    span: Span,
+) -> Result<Entry, TextStop>
     requires { span ≡ entry_span (entry_meaning tables.now tree.now) }
     ensures { Gives (of_table tables.now earlier.now (entry_meaning tables.now tree.now) (table_place tables.now (out-EntryTree tree.now).table.text)) result }
 {
@@ -82,7 +89,12 @@ fn of_table(alloc: Global, tables: &[Table], earlier: &[Entry], tree: &EntryTree
 }
 
 /// An entry after others, which are fewer than 16.
-fn bind_entry(alloc: Global, tables: &[Table], earlier: &[Entry], tree: &EntryTree) -> Result<Entry, TextStop>
+fn bind_entry(
+    alloc: Global,
+    tables: &[Table],
+    earlier: &[Entry],
+    tree: &EntryTree,
+) -> Result<Entry, TextStop>
     ensures { Gives (bind_entry tables.now earlier.now (entry_meaning tables.now tree.now)) result }
 {
     let span = aliased_span(tree.table.span, &tree.alias);
@@ -94,7 +106,11 @@ fn bind_entry(alloc: Global, tables: &[Table], earlier: &[Entry], tree: &EntryTr
 
 /// The entries of FROM, from left to right.
 #[tactic(auto, unfolding(crate::specs::Selects::bind_entries, crate::specs::Bound::and_then))]
-pub(crate) fn bind_entries(alloc: Global, tables: &[Table], trees: &[EntryTree]) -> Result<Items<Entry>, TextStop>
+pub(crate) fn bind_entries(
+    alloc: Global,
+    tables: &[Table],
+    trees: &[EntryTree],
+) -> Result<Items<Entry>, TextStop>
     ensures { Gives (bind_entries tables.now [] (map (entry_meaning tables.now) trees.now)) result }
 {
     let mut entries = Items::new(alloc);
@@ -107,19 +123,16 @@ pub(crate) fn bind_entries(alloc: Global, tables: &[Table], trees: &[EntryTree])
     Ok(entries)
 }
 
-/// All of the one and then all of the other.
-fn joined(items: Items<Selected>, more: Items<Selected>) -> Result<Items<Selected>, NoMemory>
-    ensures { IfOk result (λ all. all ≡ items ++ more) }
-{
-    let mut all = items.into_vec();
-    let mut more = more.into_vec();
-    all.append(&mut more)?;
-    Ok(Items::from_vec(all))
-}
-
 /// The items that stand for the columns of the entry of a number.
 #[tactic(auto, unfolding(crate::specs::Selects::column_items))]
-fn entry_columns(alloc: Global, tables: &[Table], entry: &Entry, level: u32, number: u32, at: Span) -> Result<Items<Selected>, NoMemory>
+fn entry_columns(
+    alloc: Global,
+    tables: &[Table],
+    entry: &Entry,
+    level: u32,
+    number: u32,
+    at: Span,
+) -> Result<Items<Selected>, NoMemory>
     ensures { IfOk result (λ items. items ≡ column_items tables.now level number at 0 (columns_of tables.now entry.now)) }
 {
     let mut items = Items::new(alloc);
@@ -143,7 +156,13 @@ fn entry_columns(alloc: Global, tables: &[Table], entry: &Entry, level: u32, num
 
 /// The items that stand for the columns of all entries.
 #[tactic(auto, unfolding(crate::specs::Selects::star_items))]
-fn all_columns(alloc: Global, tables: &[Table], entries: &[Entry], level: u32, at: Span) -> Result<Items<Selected>, NoMemory>
+fn all_columns(
+    alloc: Global,
+    tables: &[Table],
+    entries: &[Entry],
+    level: u32,
+    at: Span,
+) -> Result<Items<Selected>, NoMemory>
     ensures { IfOk result (λ items. items ≡ star_items tables.now level at 0 entries.now) }
 {
     let mut items = Items::new(alloc);
@@ -165,7 +184,12 @@ fn alias_text(alloc: Global, alias: &Option<NameTree>) -> Result<Option<Str>, No
 }
 
 /// A written item, with its alias.
-fn written_item(alloc: Global, tree: &TermTree, alias: &Option<NameTree>, term: Term) -> Result<Items<Selected>, NoMemory>
+fn written_item(
+    alloc: Global,
+    tree: &TermTree,
+    alias: &Option<NameTree>,
+    term: Term,
+) -> Result<Items<Selected>, NoMemory>
     ensures { IfOk result (λ items. items ≡ record { item = record { term = term; star = false; span = aliased_span (tree_span tree.now) alias.now }; alias = option_map (λ name. name.text) alias.now } ∷ []) }
 {
     let span = aliased_span(tree_span(tree), alias);
@@ -182,7 +206,14 @@ fn written_item(alloc: Global, tree: &TermTree, alias: &Option<NameTree>, term: 
 
 /// The items that stand for the columns of the entry of a number.
 #[tactic(auto, unfolding(crate::specs::Selects::column_items))]
-fn numbered_columns(alloc: Global, tables: &[Table], entries: &[Entry], number: usize, level: u32, at: Span) -> Result<Items<Selected>, NoMemory>
+fn numbered_columns(
+    alloc: Global,
+    tables: &[Table],
+    entries: &[Entry],
+    number: usize,
+    level: u32,
+    at: Span,
+) -> Result<Items<Selected>, NoMemory>
     ensures { IfOk result (λ items. items ≡ column_items tables.now level number at 0 (columns_at tables.now entries.now number)) }
 {
     match entries.get(number) {
@@ -202,7 +233,14 @@ fn at_most_256(count: usize, at: Span, items: Items<Selected>) -> Result<Items<S
 }
 
 /// `*`: all columns of all entries.
-fn all_items(alloc: Global, tables: &[Table], entries: &[Entry], outer: &Levels, count: usize, at: Span) -> Result<Items<Selected>, TextStop>
+fn all_items(
+    alloc: Global,
+    tables: &[Table],
+    entries: &[Entry],
+    outer: &Levels,
+    count: usize,
+    at: Span,
+) -> Result<Items<Selected>, TextStop>
     ensures { Gives (bind_item tables.now entries.now (levels_seen outer.now) count (tree.Star at)) result }
 {
     let items = all_columns(alloc, tables, entries, outer.depth()?, at)?;
@@ -210,7 +248,15 @@ fn all_items(alloc: Global, tables: &[Table], entries: &[Entry], outer: &Levels,
 }
 
 /// A name and `.*`: all columns of an entry.
-fn entry_items(alloc: Global, tables: &[Table], entries: &[Entry], outer: &Levels, count: usize, table: &NameTree, at: Span) -> Result<Items<Selected>, TextStop>
+fn entry_items(
+    alloc: Global,
+    tables: &[Table],
+    entries: &[Entry],
+    outer: &Levels,
+    count: usize,
+    table: &NameTree,
+    at: Span,
+) -> Result<Items<Selected>, TextStop>
     ensures { Gives (entry_items tables.now entries.now (levels_seen outer.now) count table.now at (entry_place entries.now table.now.text)) result }
 {
     let Some(number) = entry_place(entries, &table.text) else {
@@ -222,36 +268,56 @@ fn entry_items(alloc: Global, tables: &[Table], entries: &[Entry], outer: &Level
 
 /// A column or a literal, after so many items.
 #[tactic(auto, unfolding(crate::specs::Bound::and_then))]
-fn one_item(alloc: Global, tables: &[Table], entries: &[Entry], outer: &Levels, count: usize, term: &TermTree, alias: &Option<NameTree>) -> Result<Items<Selected>, TextStop>
+fn one_item(
+    alloc: Global,
+    tables: &[Table],
+    entries: &[Entry],
+    outer: &Levels,
+    count: usize,
+    term: &TermTree,
+    alias: &Option<NameTree>,
+) -> Result<Items<Selected>, TextStop>
     ensures { Gives (bind_item tables.now entries.now (levels_seen outer.now) count (tree.Term term.now alias.now)) result }
 {
     if count >= MOST_ITEMS {
         return Err(too_many(257, aliased_span(tree_span(term), alias)));
     }
-    let levels = Levels::Inside {
-        entries,
-        first: 0,
-        end: entries.len(),
-        outer: &*outer,
-    };
+    let levels = Levels::whole(entries, &*outer);
     let bound = bind_term(alloc, tables, term, &levels)?;
     Ok(written_item(alloc, term, alias, bound)?)
 }
 
 /// An item, after so many.
-fn bind_item(alloc: Global, tables: &[Table], entries: &[Entry], outer: &Levels, count: usize, item: &ItemTree) -> Result<Items<Selected>, TextStop>
+fn bind_item(
+    alloc: Global,
+    tables: &[Table],
+    entries: &[Entry],
+    outer: &Levels,
+    count: usize,
+    item: &ItemTree,
+) -> Result<Items<Selected>, TextStop>
     ensures { Gives (bind_item tables.now entries.now (levels_seen outer.now) count item.now) result }
 {
     match item {
         ItemTree::Star(at) => all_items(alloc, tables, entries, outer, count, *at),
-        ItemTree::StarOf { table, star } => entry_items(alloc, tables, entries, outer, count, table, *star),
-        ItemTree::Term { term, alias } => one_item(alloc, tables, entries, outer, count, term, alias),
+        ItemTree::StarOf { table, star } => entry_items(
+            alloc, tables, entries, outer, count, table, *star,
+        ),
+        ItemTree::Term { term, alias } => one_item(
+            alloc, tables, entries, outer, count, term, alias,
+        ),
     }
 }
 
 /// The items of a SELECT, from left to right.
 #[tactic(auto, unfolding(crate::specs::Selects::bind_items, crate::specs::Bound::and_then))]
-pub(crate) fn bind_items(alloc: Global, tables: &[Table], entries: &[Entry], outer: &Levels, trees: &[ItemTree]) -> Result<Items<Selected>, TextStop>
+pub(crate) fn bind_items(
+    alloc: Global,
+    tables: &[Table],
+    entries: &[Entry],
+    outer: &Levels,
+    trees: &[ItemTree],
+) -> Result<Items<Selected>, TextStop>
     ensures { Gives (bind_items tables.now entries.now (levels_seen outer.now) 0 trees.now) result }
 {
     let mut items = Items::new(alloc);

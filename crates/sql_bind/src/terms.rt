@@ -26,7 +26,7 @@ enum Found {
 }
 
 /// Whether two names are one. Names are compared by their characters.
-fn is_same(one: &Str, other: &Str) -> bool
+pub(crate) fn is_same(one: &Str, other: &Str) -> bool
     ensures { result ≡ bytes_eq one.now other.now }
 {
     one.as_str() == other.as_str()
@@ -43,7 +43,9 @@ pub(crate) fn table_place(tables: &[Table], name: &Str) -> Option<usize>
 pub(crate) fn column_place(columns: &[Column], name: &Str) -> Option<usize>
     ensures { result ≡ column_place columns.now name.now }
 {
-    columns.iter().position(|column| is_same(&column.name, name))
+    columns
+        .iter()
+        .position(|column| is_same(&column.name, name))
 }
 
 /// The number of the entry of a visible name.
@@ -65,7 +67,12 @@ pub(crate) fn columns_of<'a>(tables: &'a [Table], entry: &Entry) -> &'a [Column]
 
 /// Where the columns of a name are, among entries that are counted from a number on.
 #[tactic(auto, using(crate::proofs::ColumnsFound::found_step, crate::proofs::ColumnsFound::found_end), unfolding(crate::specs::Names::places_named))]
-fn found_among(tables: &[Table], name: &Str, first: u32, entries: &[Entry]) -> Result<Found, NoMemory>
+fn found_among(
+    tables: &[Table],
+    name: &Str,
+    first: u32,
+    entries: &[Entry],
+) -> Result<Found, NoMemory>
     ensures { IfOk result (λ found. found ≡ found_among (places_named tables.now name.now first entries.now)) }
 {
     let mut found = Found::Nowhere;
@@ -94,7 +101,15 @@ fn with_place(found: Found, entry: u32, column: Option<usize>) -> Result<Found, 
 }
 
 /// The column of a name in the entry at a place among those that are seen, from a first one on.
-fn in_entry(tables: &[Table], outer: &Levels, first: usize, seen: &[Entry], place: usize, name: &Str, at: Span) -> Result<Term, TextStop>
+fn in_entry(
+    tables: &[Table],
+    outer: &Levels,
+    first: usize,
+    seen: &[Entry],
+    place: usize,
+    name: &Str,
+    at: Span,
+) -> Result<Term, TextStop>
     ensures { Gives (in_entry tables.now (length (levels_seen outer.now)) (first + place) at (column_place (columns_at tables.now seen.now place) name.now)) result }
 {
     match column_place(columns_at(tables, seen, place), name) {
@@ -120,7 +135,12 @@ fn find_unqualified(tables: &[Table], name: &NameTree, levels: &Levels) -> Resul
             first,
             end,
             outer,
-        } => match found_among(tables, &name.text, counted(*first)?, seen(entries, *first, *end))? {
+        } => match found_among(
+            tables,
+            &name.text,
+            counted(*first)?,
+            seen(entries, *first, *end),
+        )? {
             Found::Nowhere => find_unqualified(tables, name, outer),
             Found::Once { entry, column } => Ok(Term::Cell {
                 level: outer.depth()?,
@@ -135,7 +155,13 @@ fn find_unqualified(tables: &[Table], name: &NameTree, levels: &Levels) -> Resul
 
 /// The column of a name behind that of a table: that of the innermost FROM list with an entry of the name.
 #[tactic(auto, unfolding(crate::specs::Names::find_qualified))]
-fn find_qualified(tables: &[Table], table: &NameTree, name: &NameTree, at: Span, levels: &Levels) -> Result<Term, TextStop>
+fn find_qualified(
+    tables: &[Table],
+    table: &NameTree,
+    name: &NameTree,
+    at: Span,
+    levels: &Levels,
+) -> Result<Term, TextStop>
     ensures { Gives (find_qualified tables.now table.now.text name.now.text at (levels_seen levels.now)) result }
 {
     match levels {
@@ -176,7 +202,12 @@ pub(crate) fn columns_at<'a>(tables: &'a [Table], entries: &[Entry], number: usi
 }
 
 /// [ table . ] name
-fn find_column(tables: &[Table], table: &Option<NameTree>, name: &NameTree, levels: &Levels) -> Result<Term, TextStop>
+fn find_column(
+    tables: &[Table],
+    table: &Option<NameTree>,
+    name: &NameTree,
+    levels: &Levels,
+) -> Result<Term, TextStop>
     ensures { Gives (find_column tables.now table.now name.now (levels_seen levels.now)) result }
 {
     match table {
@@ -213,7 +244,12 @@ fn with_added(added: i64, term: Term) -> Term
 
 /// A term.
 #[tactic(auto, unfolding(crate::specs::Bound::and_then))]
-pub(crate) fn bind_term(alloc: Global, tables: &[Table], tree: &TermTree, levels: &Levels) -> Result<Term, TextStop>
+pub(crate) fn bind_term(
+    alloc: Global,
+    tables: &[Table],
+    tree: &TermTree,
+    levels: &Levels,
+) -> Result<Term, TextStop>
     ensures { Gives (terms.bind_term tables.now (levels_seen levels.now) tree.now) result }
 {
     match tree {
