@@ -83,7 +83,7 @@ module _ (outlines : List Table) (trees : List CreateTable) where
   pub keys_found : (keys : List NamedKeys) (n : ℕ) (table : Table) (found : NamedKeys) → keys ≡ all_keys trees 0 outlines → slice_get outlines n ≡ Some table → slice_get keys n ≡ Some found → found ≡ keys_named table.columns (rules_at outlines trees n)
   keys_found keys n table found is there here =
       let e : Some found ≡ Some (keys_named table.columns (rules_at outlines trees n)) =
-        sym here ∙ ap (λ ks. slice_get ks n) is ∙ at_start n ∙ ap (option_map (λ (t : Table). keys_named t.columns (rules_at outlines trees n))) there
+      sym here ∙ ap (λ ks. slice_get ks n) is ∙ at_start n ∙ ap (option_map (λ (t : Table). keys_named t.columns (rules_at outlines trees n))) there
       in cc
 
   module _ (table : Table) (name : NameTree) (columns : List ℕ) (target_name : NameTree) (target_names : List NameTree) (at : Span) where

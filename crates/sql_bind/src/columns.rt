@@ -101,7 +101,13 @@ fn is_marked(own: &[RuleTree], elements: &[Element], name: &Str) -> bool
 
 /// A column of this name, new to its table, after so many.
 #[tactic(auto, unfolding(crate::specs::Bound::and_then))]
-fn new_column(alloc: Global, count: usize, name: &NameTree, kind: &TypeTree, not_null: bool) -> Result<Column, TextStop>
+fn new_column(
+    alloc: Global,
+    count: usize,
+    name: &NameTree,
+    kind: &TypeTree,
+    not_null: bool,
+) -> Result<Column, TextStop>
     ensures bound { Gives (new_column count name.now kind.now not_null) result }
     ensures named { IfOk result (λ column. column.name ≡ name.now.text) }
 {
@@ -145,13 +151,21 @@ impl<'t> NewColumns<'t> {
     }
 
     /// These and, where an element of the table is a column, that column.
-    fn with(self, alloc: Global, elements: &[Element], element: &'t Element) -> Result<NewColumns<'t>, TextStop>
+    fn with(
+        self,
+        alloc: Global,
+        elements: &[Element],
+        element: &'t Element,
+    ) -> Result<NewColumns<'t>, TextStop>
         ensures { Gives (column_step (rules_of elements.now) self.entry element.now) result }
     {
         let Element::Column { name, kind, rules } = element else {
             return Ok(self);
         };
-        let NewColumns { mut names, mut columns } = self;
+        let NewColumns {
+            mut names,
+            mut columns,
+        } = self;
         if !names.add(&name.text)? {
             return Err(refused(Fault::DuplicateName, name.span));
         }

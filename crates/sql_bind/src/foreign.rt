@@ -45,7 +45,11 @@ struct Target<'t> {
 
 /// The columns of these names, if each is there.
 #[tactic(auto, using(crate::proofs::Targets::named_start))]
-fn named_columns(alloc: Global, columns: &[Column], names: &[NameTree]) -> Result<Option<Items<u32>>, NoMemory>
+fn named_columns(
+    alloc: Global,
+    columns: &[Column],
+    names: &[NameTree],
+) -> Result<Option<Items<u32>>, NoMemory>
     ensures { IfOk result (λ places. places ≡ named_columns columns.now names.now) }
 {
     let mut places = Items::new(alloc);
@@ -62,7 +66,11 @@ fn named_columns(alloc: Global, columns: &[Column], names: &[NameTree]) -> Resul
 /// The columns that a foreign key refers to: those of its list, or of the primary key where there is
 /// none.
 #[tactic(auto, using(crate::proofs::Targets::target_list))]
-fn target_columns(alloc: Global, target: &Target, names: &[NameTree]) -> Result<Option<Items<u32>>, NoMemory>
+fn target_columns(
+    alloc: Global,
+    target: &Target,
+    names: &[NameTree],
+) -> Result<Option<Items<u32>>, NoMemory>
     ensures { IfOk result (λ targets. targets ≡ targets_named target.now.keys.now.primary target.now.table.now.columns names.now) }
 {
     if !names.is_empty() {
@@ -86,7 +94,10 @@ fn are_of_one_kind(one: Option<Kind>, other: Option<Kind>) -> bool
 fn pairs_go_together(table: &Table, target: &Table, columns: &[u32], others: &[u32]) -> bool
     ensures { result ≡ list_all (λ pair. are_of_one_kind (column_kind table.now pair.0) (column_kind target.now pair.1)) (zip columns.now others.now) }
 {
-    columns.iter().zip(others).all(|(c, o)| are_of_one_kind(table.column_kind(*c), target.column_kind(*o)))
+    columns.iter().zip(others).all(|(c, o)| are_of_one_kind(
+        table.column_kind(*c),
+        target.column_kind(*o),
+    ))
 }
 
 fn are_paired(table: &Table, target: &Table, columns: &[u32], others: &[u32]) -> bool
@@ -126,7 +137,13 @@ impl Target<'_> {
 
 impl Home<'_> {
     /// The foreign key from these columns to those of a target.
-    fn refer(&self, target: &Target, own: Items<u32>, targets: Option<Items<u32>>, at: Span) -> Result<ForeignKey, TextStop>
+    fn refer(
+        &self,
+        target: &Target,
+        own: Items<u32>,
+        targets: Option<Items<u32>>,
+        at: Span,
+    ) -> Result<ForeignKey, TextStop>
         ensures { Gives (referred self.now.table.now target.now.table.now target.now.keys.now target.now.number own at targets) result }
     {
         let Some(targets) = targets else {
@@ -146,14 +163,22 @@ impl Home<'_> {
     }
 
     /// The foreign key from these columns to the table of a name.
-    fn with_target(&self, alloc: Global, columns: Items<u32>, name: &NameTree, names: &[NameTree], at: Span) -> Result<ForeignKey, TextStop>
+    fn with_target(
+        &self,
+        alloc: Global,
+        columns: Items<u32>,
+        name: &NameTree,
+        names: &[NameTree],
+        at: Span,
+    ) -> Result<ForeignKey, TextStop>
         requires keys { self.now.declared.now.keys.now ≡ all_keys self.now.declared.now.trees.now 0 self.now.declared.now.outlines.now }
         ensures { Gives (with_target self.now.declared.now.outlines.now self.now.declared.now.trees.now self.now.table.now self.now.name.now columns name.now names.now at (table_place self.now.declared.now.outlines.now name.now.text)) result }
     {
         let Some(place) = self.declared.outlines.place(&name.text) else {
             return Err(refused(Fault::UnknownTable, name.span));
         };
-        let Some(target) = target_at(self.declared.outlines.tables(), self.declared.keys, place) else {
+        let Some(target) = target_at(self.declared.outlines.tables(), self.declared.keys, place)
+        else {
             return Err(refused(Fault::UnknownTable, name.span));
         };
         let targets = target_columns(alloc, &target, names)?;
@@ -162,7 +187,14 @@ impl Home<'_> {
 
     /// A foreign key: its own columns, then its target, then the target's columns, then the kinds.
     #[tactic(auto, unfolding(crate::specs::Bound::and_then))]
-    pub(crate) fn bind_foreign(&self, alloc: Global, own: &[NameTree], name: &NameTree, names: &[NameTree], at: Span) -> Result<ForeignKey, TextStop>
+    pub(crate) fn bind_foreign(
+        &self,
+        alloc: Global,
+        own: &[NameTree],
+        name: &NameTree,
+        names: &[NameTree],
+        at: Span,
+    ) -> Result<ForeignKey, TextStop>
         requires keys { self.now.declared.now.keys.now ≡ all_keys self.now.declared.now.trees.now 0 self.now.declared.now.outlines.now }
         ensures { Gives (bind_foreign self.now.declared.now.outlines.now self.now.declared.now.trees.now self.now.table.now self.now.name.now own.now name.now names.now at) result }
     {

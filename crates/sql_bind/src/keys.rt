@@ -42,7 +42,10 @@ fn add_rules<'t>(rules: &mut Vec<&'t RuleTree>, element: &'t Element) -> Result<
 }
 
 /// The rules of a table in text order, those of its columns among them.
-pub(crate) fn rules_of<'t>(alloc: Global, elements: &'t [Element]) -> Result<Vec<&'t RuleTree>, NoMemory>
+pub(crate) fn rules_of<'t>(
+    alloc: Global,
+    elements: &'t [Element],
+) -> Result<Vec<&'t RuleTree>, NoMemory>
     ensures { IfOk result (λ rules. behind rules.items ≡ rules_of elements.now) }
 {
     let mut rules = Vec::new(alloc);
@@ -73,7 +76,11 @@ fn bind_name(columns: &[Column], earlier: &[u32], name: &NameTree) -> Result<u32
 }
 
 /// The columns of a list of names, each of which is a column and stands once.
-pub(crate) fn bind_names(alloc: Global, columns: &[Column], names: &[NameTree]) -> Result<Items<u32>, TextStop>
+pub(crate) fn bind_names(
+    alloc: Global,
+    columns: &[Column],
+    names: &[NameTree],
+) -> Result<Items<u32>, TextStop>
     ensures { Gives (bind_names columns.now [] names.now) result }
 {
     let mut places = Items::new(alloc);
@@ -84,7 +91,11 @@ pub(crate) fn bind_names(alloc: Global, columns: &[Column], names: &[NameTree]) 
     Ok(places)
 }
 
-fn good_names(alloc: Global, columns: &[Column], names: &[NameTree]) -> Result<Option<Items<u32>>, NoMemory>
+fn good_names(
+    alloc: Global,
+    columns: &[Column],
+    names: &[NameTree],
+) -> Result<Option<Items<u32>>, NoMemory>
     ensures { IfOk result (λ places. places ≡ good_names columns.now names.now) }
 {
     match bind_names(alloc, columns, names) {
@@ -119,7 +130,11 @@ fn key_rules<'t>(alloc: Global, rules: &[&'t RuleTree]) -> Result<Vec<&'t RuleTr
 }
 
 /// The columns of the first primary key, if its names are good.
-fn primary_key(alloc: Global, columns: &[Column], keys: &[&RuleTree]) -> Result<Option<Items<u32>>, NoMemory>
+fn primary_key(
+    alloc: Global,
+    columns: &[Column],
+    keys: &[&RuleTree],
+) -> Result<Option<Items<u32>>, NoMemory>
     ensures { IfOk result (λ key. key ≡ primary_key columns.now (behind keys.now)) }
 {
     for rule in keys {
@@ -131,7 +146,11 @@ fn primary_key(alloc: Global, columns: &[Column], keys: &[&RuleTree]) -> Result<
     Ok(None)
 }
 
-fn unique_columns(alloc: Global, columns: &[Column], rule: &RuleTree) -> Result<Option<Items<u32>>, NoMemory>
+fn unique_columns(
+    alloc: Global,
+    columns: &[Column],
+    rule: &RuleTree,
+) -> Result<Option<Items<u32>>, NoMemory>
     ensures { IfOk result (λ key. key ≡ unique_columns columns.now rule.now) }
 {
     match rule {
@@ -141,7 +160,11 @@ fn unique_columns(alloc: Global, columns: &[Column], rule: &RuleTree) -> Result<
 }
 
 /// The columns of each other key whose names are good.
-fn unique_keys(alloc: Global, columns: &[Column], keys: &[&RuleTree]) -> Result<Items<Items<u32>>, NoMemory>
+fn unique_keys(
+    alloc: Global,
+    columns: &[Column],
+    keys: &[&RuleTree],
+) -> Result<Items<Items<u32>>, NoMemory>
     ensures { IfOk result (λ unique. unique ≡ filter_map (unique_columns columns.now) (behind keys.now)) }
 {
     let mut unique = Items::new(alloc);
@@ -154,7 +177,11 @@ fn unique_keys(alloc: Global, columns: &[Column], keys: &[&RuleTree]) -> Result<
 }
 
 /// The keys of a table with these columns and rules.
-pub(crate) fn named_keys(alloc: Global, columns: &[Column], rules: &[&RuleTree]) -> Result<NamedKeys, NoMemory>
+pub(crate) fn named_keys(
+    alloc: Global,
+    columns: &[Column],
+    rules: &[&RuleTree],
+) -> Result<NamedKeys, NoMemory>
     ensures { IfOk result (λ keys. keys ≡ keys_named columns.now (behind rules.now)) }
 {
     let keys = key_rules(alloc, rules)?;
@@ -180,7 +207,8 @@ fn are_columns_of(columns: &[u32], key: &[u32]) -> bool
 fn some_key_has(keys: &[Items<u32>], columns: &[u32]) -> bool
     ensures { result ≡ list_any (λ key. are_columns_of columns.now (record { columns = key })) keys.now }
 {
-    keys.iter().any(|key| are_columns_of(columns, key.as_slice()))
+    keys.iter()
+        .any(|key| are_columns_of(columns, key.as_slice()))
 }
 
 impl NamedKeys {

@@ -67,7 +67,10 @@ impl<'t> Outlines<'t> {
     fn with(self, alloc: Global, tree: &'t CreateTable) -> Result<Outlines<'t>, TextStop>
         ensures { Gives (outline_step self.entry tree.now) result }
     {
-        let Outlines { mut names, mut tables } = self;
+        let Outlines {
+            mut names,
+            mut tables,
+        } = self;
         if !names.add(&tree.name.text)? {
             return Err(refused(Fault::DuplicateName, tree.name.span));
         }
@@ -95,7 +98,10 @@ impl<'t> Outlines<'t> {
 }
 
 /// The tables of a schema.
-pub(crate) fn bind_outlines<'t>(alloc: Global, trees: &'t [CreateTable]) -> Result<Outlines<'t>, TextStop>
+pub(crate) fn bind_outlines<'t>(
+    alloc: Global,
+    trees: &'t [CreateTable],
+) -> Result<Outlines<'t>, TextStop>
     ensures { Gives (bind_outlines [] trees.now) result }
 {
     let mut outlines = Outlines::new(alloc);

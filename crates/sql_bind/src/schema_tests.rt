@@ -52,7 +52,13 @@ fn names(alloc: Global, texts: &[&str], first: u32) -> Result<Items<NameTree>, N
 }
 
 /// A column whose name is the first in its part.
-fn column(alloc: Global, text: &str, kind: TypeTree, rule: Option<RuleTree>, at: u32) -> Result<Element, NoMemory> {
+fn column(
+    alloc: Global,
+    text: &str,
+    kind: TypeTree,
+    rule: Option<RuleTree>,
+    at: u32,
+) -> Result<Element, NoMemory> {
     let mut rules = Items::new(alloc);
     if let Some(rule) = rule {
         rules.push(rule)?;
@@ -72,7 +78,13 @@ fn key(alloc: Global, texts: &[&str], at: u32) -> Result<RuleTree, NoMemory> {
 }
 
 /// The word stands at 0, the own columns from 1, the target at 5 and its columns from 6 on.
-fn reference(alloc: Global, own: &[&str], target: &str, targets: &[&str], at: u32) -> Result<RuleTree, NoMemory> {
+fn reference(
+    alloc: Global,
+    own: &[&str],
+    target: &str,
+    targets: &[&str],
+    at: u32,
+) -> Result<RuleTree, NoMemory> {
     Ok(RuleTree::Foreign {
         columns: names(alloc, own, at.saturating_add(1))?,
         table: name(alloc, target, at.saturating_add(5))?,
@@ -101,14 +113,31 @@ fn is_one(alloc: Global, text: &str, at: u32) -> Result<CondTree, NoMemory> {
 fn element(alloc: Global, part: &Part, at: u32) -> Result<Element, NoMemory> {
     match part {
         Number(text) => column(alloc, text, TypeTree::Integer, None, at),
-        Text(text, length) => column(alloc, text, TypeTree::Text { length: *length, span: place(at) }, None, at),
+        Text(text, length) => column(
+            alloc,
+            text,
+            TypeTree::Text {
+                length: *length,
+                span: place(at),
+            },
+            None,
+            at,
+        ),
         NotNull(text) => column(alloc, text, TypeTree::Integer, Some(RuleTree::NotNull), at),
-        PrimaryColumn(text) => column(alloc, text, TypeTree::Integer, Some(key(alloc, &[*text], at)?), at),
+        PrimaryColumn(text) => column(
+            alloc,
+            text,
+            TypeTree::Integer,
+            Some(key(alloc, &[*text], at)?),
+            at,
+        ),
         Unique(texts) => Ok(Element::Rule(RuleTree::Unique {
             columns: names(alloc, texts, at.saturating_add(1))?,
         })),
         Primary(texts) => Ok(Element::Rule(key(alloc, texts, at)?)),
-        Foreign(own, target, targets) => Ok(Element::Rule(reference(alloc, own, target, targets, at)?)),
+        Foreign(own, target, targets) => Ok(Element::Rule(reference(
+            alloc, own, target, targets, at,
+        )?)),
         CheckIsOne(text) => Ok(Element::Rule(RuleTree::Check(is_one(alloc, text, at)?))),
     }
 }
@@ -137,16 +166,25 @@ fn trees(alloc: Global, declarations: &[Declaration]) -> Result<Vec<CreateTable>
 }
 
 /// The fault, the place and the count of the refusal.
-fn refusal(alloc: Global, declarations: &[Declaration]) -> Result<Option<(Fault, u32, u32)>, NoMemory> {
+fn refusal(
+    alloc: Global,
+    declarations: &[Declaration],
+) -> Result<Option<(Fault, u32, u32)>, NoMemory> {
     match bind_all(alloc, trees(alloc, declarations)?.as_slice()) {
         Ok(_) => Ok(None),
-        Err(TextStop::Refused(Refusal { fault, span, count })) => Ok(Some((fault, span.from, count))),
+        Err(TextStop::Refused(Refusal { fault, span, count })) => Ok(Some((
+            fault, span.from, count,
+        ))),
         Err(TextStop::NoMemory) => Err(NoMemory),
     }
 }
 
 /// Says that each schema is refused by the fault at the place.
-fn are_refused(rt: &impl Abort, alloc: Global, cases: &[(&[Declaration], Fault, u32)]) -> Result<(), NoMemory> {
+fn are_refused(
+    rt: &impl Abort,
+    alloc: Global,
+    cases: &[(&[Declaration], Fault, u32)],
+) -> Result<(), NoMemory> {
     for (declarations, fault, at) in cases {
         let found = refusal(alloc, declarations)?;
         assert!(rt; found == Some((*fault, *at, 0)), "at {at}");
@@ -157,13 +195,41 @@ fn are_refused(rt: &impl Abort, alloc: Global, cases: &[(&[Declaration], Fault, 
 #[test]
 fn names_that_are_taken(rt: HostRuntime) -> Result<(), Fail> {
     let cases: [(&[Declaration], Fault, u32); 7] = [
-        (&[("t", &[Number("a")]), ("t", &[Number("a")])], Fault::DuplicateName, 100),
-        (&[("t", &[Number("a"), Text("a", 0)])], Fault::DuplicateName, 21),
-        (&[("t", &[Number("a"), Unique(&["a", "a"])])], Fault::DuplicateName, 22),
-        (&[("t", &[Number("a"), Foreign(&["a", "a"], "u", &[])])], Fault::DuplicateName, 22),
-        (&[("t", &[PrimaryColumn("a"), Number("b"), Primary(&["b"])])], Fault::DuplicateName, 30),
-        (&[("t", &[PrimaryColumn("a"), Primary(&["a", "a"])])], Fault::DuplicateName, 22),
-        (&[("t", &[Unique(&["z"])]), ("t", &[])], Fault::DuplicateName, 100),
+        (
+            &[("t", &[Number("a")]), ("t", &[Number("a")])],
+            Fault::DuplicateName,
+            100,
+        ),
+        (
+            &[("t", &[Number("a"), Text("a", 0)])],
+            Fault::DuplicateName,
+            21,
+        ),
+        (
+            &[("t", &[Number("a"), Unique(&["a", "a"])])],
+            Fault::DuplicateName,
+            22,
+        ),
+        (
+            &[("t", &[Number("a"), Foreign(&["a", "a"], "u", &[])])],
+            Fault::DuplicateName,
+            22,
+        ),
+        (
+            &[("t", &[PrimaryColumn("a"), Number("b"), Primary(&["b"])])],
+            Fault::DuplicateName,
+            30,
+        ),
+        (
+            &[("t", &[PrimaryColumn("a"), Primary(&["a", "a"])])],
+            Fault::DuplicateName,
+            22,
+        ),
+        (
+            &[("t", &[Unique(&["z"])]), ("t", &[])],
+            Fault::DuplicateName,
+            100,
+        ),
     ];
     are_refused(&rt, rt.alloc(), &cases)?;
     Ok(())
@@ -172,12 +238,36 @@ fn names_that_are_taken(rt: HostRuntime) -> Result<(), Fail> {
 #[test]
 fn names_that_are_unknown(rt: HostRuntime) -> Result<(), Fail> {
     let cases: [(&[Declaration], Fault, u32); 6] = [
-        (&[("t", &[Number("a"), Unique(&["a", "z", "a"])])], Fault::UnknownColumn, 22),
-        (&[("t", &[PrimaryColumn("a"), Primary(&["z"])])], Fault::UnknownColumn, 21),
-        (&[("t", &[Number("a"), Foreign(&["z"], "u", &[])])], Fault::UnknownColumn, 21),
-        (&[("t", &[Number("a"), Foreign(&["a"], "u", &["z"])])], Fault::UnknownTable, 25),
-        (&[("t", &[Number("a"), CheckIsOne("z")])], Fault::UnknownColumn, 21),
-        (&[("t", &[CheckIsOne("x")]), ("u", &[Number("x")])], Fault::UnknownColumn, 11),
+        (
+            &[("t", &[Number("a"), Unique(&["a", "z", "a"])])],
+            Fault::UnknownColumn,
+            22,
+        ),
+        (
+            &[("t", &[PrimaryColumn("a"), Primary(&["z"])])],
+            Fault::UnknownColumn,
+            21,
+        ),
+        (
+            &[("t", &[Number("a"), Foreign(&["z"], "u", &[])])],
+            Fault::UnknownColumn,
+            21,
+        ),
+        (
+            &[("t", &[Number("a"), Foreign(&["a"], "u", &["z"])])],
+            Fault::UnknownTable,
+            25,
+        ),
+        (
+            &[("t", &[Number("a"), CheckIsOne("z")])],
+            Fault::UnknownColumn,
+            21,
+        ),
+        (
+            &[("t", &[CheckIsOne("x")]), ("u", &[Number("x")])],
+            Fault::UnknownColumn,
+            11,
+        ),
     ];
     are_refused(&rt, rt.alloc(), &cases)?;
     Ok(())
@@ -187,10 +277,30 @@ fn names_that_are_unknown(rt: HostRuntime) -> Result<(), Fail> {
 fn lengths_and_kinds(rt: HostRuntime) -> Result<(), Fail> {
     let cases: [(&[Declaration], Fault, u32); 5] = [
         (&[("t", &[Number("a"), Text("b", 0)])], Fault::BadLength, 20),
-        (&[("t", &[Number("a"), Text("b", 65_536)])], Fault::BadLength, 20),
+        (
+            &[("t", &[Number("a"), Text("b", 65_536)])],
+            Fault::BadLength,
+            20,
+        ),
         (&[("t", &[Text("b", -1)])], Fault::BadLength, 10),
-        (&[("t", &[Number("a"), Text("b", 9), Unique(&["b"]), Foreign(&["a"], "t", &["b"])])], Fault::TypeMismatch, 40),
-        (&[("t", &[Text("a", 9), CheckIsOne("a")])], Fault::TypeMismatch, 20),
+        (
+            &[(
+                "t",
+                &[
+                    Number("a"),
+                    Text("b", 9),
+                    Unique(&["b"]),
+                    Foreign(&["a"], "t", &["b"]),
+                ],
+            )],
+            Fault::TypeMismatch,
+            40,
+        ),
+        (
+            &[("t", &[Text("a", 9), CheckIsOne("a")])],
+            Fault::TypeMismatch,
+            20,
+        ),
     ];
     are_refused(&rt, rt.alloc(), &cases)?;
     Ok(())
@@ -199,14 +309,94 @@ fn lengths_and_kinds(rt: HostRuntime) -> Result<(), Fail> {
 #[test]
 fn targets_that_are_no_key(rt: HostRuntime) -> Result<(), Fail> {
     let cases: [(&[Declaration], Fault, u32); 8] = [
-        (&[("t", &[Number("a"), Unique(&["a"]), Foreign(&["a"], "t", &[])])], Fault::NotAKey, 30),
-        (&[("t", &[Number("a"), Number("b"), Unique(&["a"]), Foreign(&["a"], "t", &["b"])])], Fault::NotAKey, 40),
-        (&[("t", &[Number("a"), Number("b"), Primary(&["a", "b"]), Foreign(&["a"], "t", &[])])], Fault::NotAKey, 40),
-        (&[("t", &[Number("a"), Number("b"), Unique(&["a"]), Foreign(&["a", "b"], "t", &["a"])])], Fault::NotAKey, 40),
-        (&[("t", &[Number("a"), Unique(&["a"]), Foreign(&["a"], "t", &["z"])])], Fault::NotAKey, 30),
-        (&[("t", &[Number("a"), Number("b"), Unique(&["a", "b"]), Foreign(&["a", "b"], "t", &["a", "a"])])], Fault::NotAKey, 40),
-        (&[("t", &[Number("a"), Foreign(&["a"], "t", &["a"]), Unique(&["a", "z"])])], Fault::NotAKey, 20),
-        (&[("t", &[Number("a"), Foreign(&["a"], "u", &[])]), ("u", &[Number("a"), Primary(&["z"]), Primary(&["a"])])], Fault::NotAKey, 20),
+        (
+            &[(
+                "t",
+                &[Number("a"), Unique(&["a"]), Foreign(&["a"], "t", &[])],
+            )],
+            Fault::NotAKey,
+            30,
+        ),
+        (
+            &[(
+                "t",
+                &[
+                    Number("a"),
+                    Number("b"),
+                    Unique(&["a"]),
+                    Foreign(&["a"], "t", &["b"]),
+                ],
+            )],
+            Fault::NotAKey,
+            40,
+        ),
+        (
+            &[(
+                "t",
+                &[
+                    Number("a"),
+                    Number("b"),
+                    Primary(&["a", "b"]),
+                    Foreign(&["a"], "t", &[]),
+                ],
+            )],
+            Fault::NotAKey,
+            40,
+        ),
+        (
+            &[(
+                "t",
+                &[
+                    Number("a"),
+                    Number("b"),
+                    Unique(&["a"]),
+                    Foreign(&["a", "b"], "t", &["a"]),
+                ],
+            )],
+            Fault::NotAKey,
+            40,
+        ),
+        (
+            &[(
+                "t",
+                &[Number("a"), Unique(&["a"]), Foreign(&["a"], "t", &["z"])],
+            )],
+            Fault::NotAKey,
+            30,
+        ),
+        (
+            &[(
+                "t",
+                &[
+                    Number("a"),
+                    Number("b"),
+                    Unique(&["a", "b"]),
+                    Foreign(&["a", "b"], "t", &["a", "a"]),
+                ],
+            )],
+            Fault::NotAKey,
+            40,
+        ),
+        (
+            &[(
+                "t",
+                &[
+                    Number("a"),
+                    Foreign(&["a"], "t", &["a"]),
+                    Unique(&["a", "z"]),
+                ],
+            )],
+            Fault::NotAKey,
+            20,
+        ),
+        (
+            &[
+                ("t", &[Number("a"), Foreign(&["a"], "u", &[])]),
+                ("u", &[Number("a"), Primary(&["z"]), Primary(&["a"])]),
+            ],
+            Fault::NotAKey,
+            20,
+        ),
     ];
     are_refused(&rt, rt.alloc(), &cases)?;
     Ok(())
@@ -278,7 +468,12 @@ fn many_tables(alloc: Global, count: usize) -> Result<Vec<CreateTable>, NoMemory
 fn one_table_too_many(rt: HostRuntime) -> Result<(), Fail> {
     let alloc = rt.alloc();
     assert!(rt; refusal_of(alloc, many_tables(alloc, 200)?.as_slice())? == None);
-    is_too_many(&rt, refusal_of(alloc, many_tables(alloc, 201)?.as_slice())?, 200, 201);
+    is_too_many(
+        &rt,
+        refusal_of(alloc, many_tables(alloc, 201)?.as_slice())?,
+        200,
+        201,
+    );
     Ok(())
 }
 
@@ -328,15 +523,73 @@ fn shown(alloc: Global, table: &Table) -> Result<String, AllocError> {
 fn bound_tables(rt: HostRuntime) -> Result<(), Fail> {
     let alloc = rt.alloc();
     let cases: [(&[Declaration], &str); 10] = [
-        (&[("t", &[NotNull("a"), Number("b"), Text("c", 1), Text("d", 65_535)])], "t a! b c d"),
+        (
+            &[(
+                "t",
+                &[NotNull("a"), Number("b"), Text("c", 1), Text("d", 65_535)],
+            )],
+            "t a! b c d",
+        ),
         (&[("t", &[PrimaryColumn("a"), Number("b")])], "t a! b ( 0 )"),
-        (&[("t", &[Number("a"), Number("b"), Number("c"), Primary(&["c", "a"])])], "t a! b c! ( 2 0 )"),
-        (&[("t", &[Number("a"), Number("b"), Unique(&["b"]), Primary(&["a"])])], "t a! b ( 0 ) ( 1 )"),
-        (&[("t", &[Number("a"), Foreign(&["a"], "u", &[])]), ("u", &[PrimaryColumn("x")])], "t a [ 0 > 1: 0 ]"),
-        (&[("t", &[Number("a"), Number("b"), Foreign(&["a", "b"], "u", &["y", "x"])]), ("u", &[Number("x"), Number("y"), Primary(&["x", "y"])])], "t a b [ 0 1 > 1: 1 0 ]"),
-        (&[("t", &[Number("a"), Number("b"), Foreign(&["b", "a"], "u", &[])]), ("u", &[Number("x"), Number("y"), Primary(&["y", "x"])])], "t a b [ 1 0 > 1: 1 0 ]"),
-        (&[("t", &[PrimaryColumn("a"), Number("b"), Foreign(&["b"], "t", &[])])], "t a! b ( 0 ) [ 1 > 0: 0 ]"),
-        (&[("t", &[Number("a"), Foreign(&["a"], "t", &["a"]), Unique(&["a"])])], "t a ( 0 ) [ 0 > 0: 0 ]"),
+        (
+            &[(
+                "t",
+                &[Number("a"), Number("b"), Number("c"), Primary(&["c", "a"])],
+            )],
+            "t a! b c! ( 2 0 )",
+        ),
+        (
+            &[(
+                "t",
+                &[Number("a"), Number("b"), Unique(&["b"]), Primary(&["a"])],
+            )],
+            "t a! b ( 0 ) ( 1 )",
+        ),
+        (
+            &[
+                ("t", &[Number("a"), Foreign(&["a"], "u", &[])]),
+                ("u", &[PrimaryColumn("x")]),
+            ],
+            "t a [ 0 > 1: 0 ]",
+        ),
+        (
+            &[
+                (
+                    "t",
+                    &[
+                        Number("a"),
+                        Number("b"),
+                        Foreign(&["a", "b"], "u", &["y", "x"]),
+                    ],
+                ),
+                ("u", &[Number("x"), Number("y"), Primary(&["x", "y"])]),
+            ],
+            "t a b [ 0 1 > 1: 1 0 ]",
+        ),
+        (
+            &[
+                (
+                    "t",
+                    &[Number("a"), Number("b"), Foreign(&["b", "a"], "u", &[])],
+                ),
+                ("u", &[Number("x"), Number("y"), Primary(&["y", "x"])]),
+            ],
+            "t a b [ 1 0 > 1: 1 0 ]",
+        ),
+        (
+            &[(
+                "t",
+                &[PrimaryColumn("a"), Number("b"), Foreign(&["b"], "t", &[])],
+            )],
+            "t a! b ( 0 ) [ 1 > 0: 0 ]",
+        ),
+        (
+            &[(
+                "t",
+                &[Number("a"), Foreign(&["a"], "t", &["a"]), Unique(&["a"])],
+            )],
+            "t a ( 0 ) [ 0 > 0: 0 ]",
+        ),
         (&[("t", &[])], "t"),
     ];
     for (declarations, expected) in &cases {
@@ -354,13 +607,12 @@ fn compares_column(cond: &Cond, number: u32) -> bool {
     match cond {
         Cond::Compare {
             op: Op::Eq,
-            left:
-                Term::Cell {
-                    level: 0,
-                    entry: 0,
-                    column,
-                    plus: 0,
-                },
+            left: Term::Cell {
+                level: 0,
+                entry: 0,
+                column,
+                plus: 0,
+            },
             right: Term::Number {
                 value: 1,
                 unit: Unit::Whole,
@@ -374,7 +626,10 @@ fn compares_column(cond: &Cond, number: u32) -> bool {
 #[test]
 fn checks_and_domains(rt: HostRuntime) -> Result<(), Fail> {
     let alloc = rt.alloc();
-    let declarations: [Declaration; 2] = [("u", &[Number("x")]), ("t", &[Text("a", 7), Number("b"), CheckIsOne("b")])];
+    let declarations: [Declaration; 2] = [
+        ("u", &[Number("x")]),
+        ("t", &[Text("a", 7), Number("b"), CheckIsOne("b")]),
+    ];
     let tables = bind_all(alloc, trees(alloc, &declarations)?.as_slice())?;
     assert_eq!(rt; tables.as_slice().len(), 2);
     let table = &tables.as_slice()[1];

@@ -116,7 +116,12 @@ fn whole_table(alloc: Global, table: &Table, constraints: Constraints) -> Result
 
 /// A condition over the entries of one FROM list.
 #[tactic(auto, using(crate::proofs::Tables::over_one))]
-fn bind_over(alloc: Global, tables: &[Table], entries: &[Entry], tree: &CondTree) -> Result<Cond, TextStop>
+fn bind_over(
+    alloc: Global,
+    tables: &[Table],
+    entries: &[Entry],
+    tree: &CondTree,
+) -> Result<Cond, TextStop>
     ensures { Gives (bind_cond tables.now (whole_level entries.now ∷ []) tree.now) result }
 {
     let level = Levels::Inside {
@@ -146,7 +151,12 @@ impl Home<'_> {
     }
 
     #[tactic(auto, unfolding(crate::specs::Bound::and_then))]
-    fn with_unique(&self, alloc: Global, earlier: Constraints, names: &[NameTree]) -> Result<Constraints, TextStop>
+    fn with_unique(
+        &self,
+        alloc: Global,
+        earlier: Constraints,
+        names: &[NameTree],
+    ) -> Result<Constraints, TextStop>
         ensures { Gives (spec.bind_rule self.now.declared.now.outlines.now self.now.declared.now.trees.now self.now.table.now self.now.name.now self.now.number earlier (rule.Unique names.now)) result }
     {
         if earlier.has_all_keys() {
@@ -169,7 +179,13 @@ impl Home<'_> {
     }
 
     #[tactic(auto, unfolding(crate::specs::Bound::and_then))]
-    fn with_primary(&self, alloc: Global, earlier: Constraints, names: &[NameTree], at: Span) -> Result<Constraints, TextStop>
+    fn with_primary(
+        &self,
+        alloc: Global,
+        earlier: Constraints,
+        names: &[NameTree],
+        at: Span,
+    ) -> Result<Constraints, TextStop>
         ensures { Gives (spec.bind_rule self.now.declared.now.outlines.now self.now.declared.now.trees.now self.now.table.now self.now.name.now self.now.number earlier (rule.Primary names.now at)) result }
     {
         if earlier.has_all_keys() {
@@ -194,7 +210,12 @@ impl Home<'_> {
     }
 
     #[tactic(auto, unfolding(crate::specs::Bound::and_then))]
-    fn with_check(&self, alloc: Global, earlier: Constraints, tree: &CondTree) -> Result<Constraints, TextStop>
+    fn with_check(
+        &self,
+        alloc: Global,
+        earlier: Constraints,
+        tree: &CondTree,
+    ) -> Result<Constraints, TextStop>
         ensures { Gives (spec.bind_rule self.now.declared.now.outlines.now self.now.declared.now.trees.now self.now.table.now self.now.name.now self.now.number earlier (rule.Check tree.now)) result }
     {
         if earlier.checks.as_slice().len() >= 1_000 {
@@ -218,14 +239,24 @@ impl Home<'_> {
 
     /// The constraints with one more, that of a rule.
     #[tactic(auto, unfolding(crate::specs::Bound::and_then))]
-    fn bind_rule(&self, alloc: Global, earlier: Constraints, rule: &RuleTree) -> Result<Constraints, TextStop>
+    fn bind_rule(
+        &self,
+        alloc: Global,
+        earlier: Constraints,
+        rule: &RuleTree,
+    ) -> Result<Constraints, TextStop>
         requires keys { self.now.declared.now.keys.now ≡ all_keys self.now.declared.now.trees.now 0 self.now.declared.now.outlines.now }
         ensures { Gives (spec.bind_rule self.now.declared.now.outlines.now self.now.declared.now.trees.now self.now.table.now self.now.name.now self.now.number earlier rule.now) result }
     {
         match rule {
             RuleTree::NotNull => Ok(earlier),
             RuleTree::Unique { columns } => self.with_unique(alloc, earlier, columns.as_slice()),
-            RuleTree::Primary { columns, span } => self.with_primary(alloc, earlier, columns.as_slice(), *span),
+            RuleTree::Primary { columns, span } => self.with_primary(
+                alloc,
+                earlier,
+                columns.as_slice(),
+                *span,
+            ),
             RuleTree::Check(tree) => self.with_check(alloc, earlier, tree),
             RuleTree::Foreign {
                 columns,
@@ -236,7 +267,13 @@ impl Home<'_> {
                 if earlier.foreign.as_slice().len() >= 1_000 {
                     return Err(too_many(1_001, self.name.span));
                 }
-                let key = self.bind_foreign(alloc, columns.as_slice(), table, target.as_slice(), *span)?;
+                let key = self.bind_foreign(
+                    alloc,
+                    columns.as_slice(),
+                    table,
+                    target.as_slice(),
+                    *span,
+                )?;
                 Ok(earlier.with_foreign(key)?)
             }
         }
@@ -255,7 +292,11 @@ impl Home<'_> {
     }
 }
 
-fn rules_at<'t>(alloc: Global, trees: &'t [CreateTable], number: usize) -> Result<Vec<&'t RuleTree>, NoMemory>
+fn rules_at<'t>(
+    alloc: Global,
+    trees: &'t [CreateTable],
+    number: usize,
+) -> Result<Vec<&'t RuleTree>, NoMemory>
     ensures { IfOk result (λ rules. behind rules.items ≡ spec.rules_at [] trees.now number) }
 {
     match trees.get(number) {
@@ -266,7 +307,11 @@ fn rules_at<'t>(alloc: Global, trees: &'t [CreateTable], number: usize) -> Resul
 
 /// The keys that each table's declaration names.
 #[tactic(auto, using(crate::proofs::Tables::keys_start, crate::proofs::Tables::keys_next, crate::proofs::Tables::keys_over))]
-fn all_keys(alloc: Global, trees: &[CreateTable], tables: &[Table]) -> Result<Items<NamedKeys>, NoMemory>
+fn all_keys(
+    alloc: Global,
+    trees: &[CreateTable],
+    tables: &[Table],
+) -> Result<Items<NamedKeys>, NoMemory>
     ensures { IfOk result (λ keys. keys ≡ all_keys trees.now 0 tables.now) }
 {
     let mut keys = Items::new(alloc);
@@ -291,7 +336,13 @@ fn table_at(tables: &[Table], number: usize) -> Option<&Table>
 impl Declared<'_> {
     /// A table with the constraints of its declaration.
     #[tactic(auto, unfolding(crate::specs::Bound::and_then))]
-    fn bind_table(&self, alloc: Global, number: usize, table: &Table, tree: &CreateTable) -> Result<Table, TextStop>
+    fn bind_table(
+        &self,
+        alloc: Global,
+        number: usize,
+        table: &Table,
+        tree: &CreateTable,
+    ) -> Result<Table, TextStop>
         requires keys { self.now.keys.now ≡ all_keys self.now.trees.now 0 self.now.outlines.now }
         ensures { Gives (bind_table self.now.outlines.now self.now.trees.now number table.now tree.now) result }
     {
@@ -324,7 +375,12 @@ impl Declared<'_> {
 }
 
 /// The second pass, over the tables of the first one.
-fn second_pass(alloc: Global, outlines: &Outlines, trees: &[CreateTable], keys: &[NamedKeys]) -> Result<Items<Table>, TextStop>
+fn second_pass(
+    alloc: Global,
+    outlines: &Outlines,
+    trees: &[CreateTable],
+    keys: &[NamedKeys],
+) -> Result<Items<Table>, TextStop>
     requires keys { keys.now ≡ all_keys trees.now 0 outlines.now }
     ensures { Gives (spec.bind_tables outlines.now trees.now 0 outlines.now trees.now) result }
 {

@@ -8,5 +8,5 @@ use Rattle.sql_bind.proofs.keys.key_rules.Given as goal
 abbrev pub invariant-loop-rule : goal.invariant-loop-rule
 invariant-loop-rule l = record {
   few : length l.keys.items ≤ 1000;
-  goes_on : take 1000 (behind l.keys.items ++ filter is_key_rule (behind (drop l.rule-index l.rules))) ≡ key_rules (behind l.rules)
+  goes_on : take 1000 (behind l.keys.items ++ filter is_key_rule (behind (drop l.rule-index l.rules))) ≡ key_rules (behind l.rules);
 }
