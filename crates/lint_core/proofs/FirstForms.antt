@@ -3,10 +3,12 @@ use Rattle.std.proofs.Common.{◌≡◌, ◌∙◌, sym, ap, refl, subst, ℕ, �
 use Rattle.std.proofs.lemmas.Bool.{and_parts, and_from}
 use Rattle.std.proofs.lemmas.Bool.Decides.{nat_tests, Decides-int_eq}
 use Rattle.std.proofs.lemmas.List.{length-map}
+use Rattle.std.proofs.lemmas.Slice.Eq.{bytes_eq-Decides}
 use Rattle.std.proofs.lemmas.List.Elements.{recursion_from_All, All-from_recursion}
 use Rattle.std.specs.Prelude.{Option, Some, None, is_none, nat_eq, nat_lt, nat_le}
 use Rattle.std.specs.List.{AllByRecursion, list_all}
 use Rattle.std.specs.Ordering.{int_eq}
+use Rattle.std.specs.Str.{bytes_eq}
 use Rattle.lint_base.specs.declared.place.Span.{Span}
 use Rattle.lint_tables.specs.declared.op.Op.{Op}
 use Rattle.lint_core.specs.declared.schema.Unit.TheVariants.{Whole}
@@ -18,7 +20,8 @@ use Rattle.lint_core.specs.declared.condition.Cond.TheOpen.{Cond-F}
 use Rattle.lint_core.specs.declared.condition.Cond.TheVariants as c
 use Rattle.lint_core.specs.declared.condition.Block.{Block}
 use Rattle.lint_core.specs.declared.query.Query.{Query}
-use Rattle.lint_core.specs.FirstForm.{Conjunct, conjunct_cond, where_cond, IsFirstForm, is_first_form, is_one_range, is_plain_column, is_column, is_literal, is_conjunct_layer, is_conjunct, is_where_layer, is_where, is_one, is_plain_table, is_plain_item, is_plain_entry, is_plain_query}
+use Rattle.lint_core.specs.PlainWord.{is_plain_word}
+use Rattle.lint_core.specs.FirstForm.{Conjunct, conjunct_cond, where_cond, IsFirstForm, is_first_form, is_one_range, is_plain_column, has_plain_name, is_column, is_literal, is_conjunct_layer, is_conjunct, is_where_layer, is_where, is_one, is_plain_table, is_plain_item, is_plain_entry, is_plain_query}
 
 -- ---- tests of numbers and lists
 
@@ -213,33 +216,38 @@ fit_both n [] ranges columns = tt
 fit_both n (x ∷ xs) ranges columns = ((ranges.0, columns.0), fit_both n xs ranges.1 columns.1)
 
 module _ (schema : List Table) (query : Query) (table : Table) where
-  form_of : schema ≡ table ∷ [] → is_plain_table table ≡ true → is_plain_query (length table.columns) query ≡ true →
+  form_of : schema ≡ table ∷ [] → is_plain_table table ≡ true → is_plain_query table query ≡ true →
       (conjuncts : List Conjunct) × IsFirstForm schema query table conjuncts
   form_of one plain fits =
       let n = length table.columns in
-      let t1 = and_parts (list_all is_plain_column table.columns && nat_eq (length table.keys) 0 && nat_eq (length table.checks) 0) (nat_eq (length table.foreign) 0) plain in
-      let t2 = and_parts (list_all is_plain_column table.columns && nat_eq (length table.keys) 0) (nat_eq (length table.checks) 0) t1.0 in
-      let t3 = and_parts (list_all is_plain_column table.columns) (nat_eq (length table.keys) 0) t2.0 in
-      let q1 = and_parts (is_none query.distinct && is_one (is_plain_item n) query.items && is_one is_plain_entry query.block.entries && is_where n query.block.cond) (nat_eq (length query.order) 0) fits in
-      let q2 = and_parts (is_none query.distinct && is_one (is_plain_item n) query.items && is_one is_plain_entry query.block.entries) (is_where n query.block.cond) q1.0 in
-      let q3 = and_parts (is_none query.distinct && is_one (is_plain_item n) query.items) (is_one is_plain_entry query.block.entries) q2.0 in
+      let t1 = and_parts (is_plain_word table.name && list_all has_plain_name table.columns && list_all is_plain_column table.columns && nat_eq (length table.keys) 0 && nat_eq (length table.checks) 0) (nat_eq (length table.foreign) 0) plain in
+      let t2 = and_parts (is_plain_word table.name && list_all has_plain_name table.columns && list_all is_plain_column table.columns && nat_eq (length table.keys) 0) (nat_eq (length table.checks) 0) t1.0 in
+      let t3 = and_parts (is_plain_word table.name && list_all has_plain_name table.columns && list_all is_plain_column table.columns) (nat_eq (length table.keys) 0) t2.0 in
+      let t4 = and_parts (is_plain_word table.name && list_all has_plain_name table.columns) (list_all is_plain_column table.columns) t3.0 in
+      let t5 = and_parts (is_plain_word table.name) (list_all has_plain_name table.columns) t4.0 in
+      let q1 = and_parts (is_none query.distinct && is_one (is_plain_item n) query.items && is_one (is_plain_entry table.name) query.block.entries && is_where n query.block.cond) (nat_eq (length query.order) 0) fits in
+      let q2 = and_parts (is_none query.distinct && is_one (is_plain_item n) query.items && is_one (is_plain_entry table.name) query.block.entries) (is_where n query.block.cond) q1.0 in
+      let q3 = and_parts (is_none query.distinct && is_one (is_plain_item n) query.items) (is_one (is_plain_entry table.name) query.block.entries) q2.0 in
       let q4 = and_parts (is_none query.distinct) (is_one (is_plain_item n) query.items) q3.0 in
       let item = one_found (is_plain_item n) query.items q4.1 in
       let item_parts = and_parts (is_column n item.0.term) (not item.0.star) item.2 in
       let column = column_found n item.0.term item_parts.0 in
-      let entry = one_found is_plain_entry query.block.entries q3.1 in
+      let entry = one_found (is_plain_entry table.name) query.block.entries q3.1 in
+      let entry_parts = and_parts (nat_eq entry.0.table 0) (bytes_eq entry.0.name table.name) entry.2 in
       let filter = where_found n query.block.cond q2.1 in (
         filter.0,
         record {
           one_table = one;
-          plain_columns = All-from_recursion (λ column. is_plain_column column ≡ true) table.columns (every_found is_plain_column table.columns t3.0);
+          plain_name = t5.0;
+          plain_names = All-from_recursion (λ column. has_plain_name column ≡ true) table.columns (every_found has_plain_name table.columns t5.1);
+          plain_columns = All-from_recursion (λ column. is_plain_column column ≡ true) table.columns (every_found is_plain_column table.columns t4.1);
           no_keys = empty_found table.keys t3.1;
           no_checks = empty_found table.checks t2.1;
           no_foreign = empty_found table.foreign t1.1;
           no_distinct = none_found query.distinct q4.0;
           one_item = (item.0, column.0, item.1, column.1, not_found item.0.star item_parts.1, column.2);
           no_order = empty_found query.order q1.1;
-          one_entry = (entry.0, entry.1, eq_found entry.0.table 0 entry.2);
+          one_entry = (entry.0, entry.1, eq_found entry.0.table 0 entry_parts.0, (bytes_eq-Decides entry.0.name table.name).0 entry_parts.1);
           filter = filter.1;
           some = filter.2;
           few = filter.3;
@@ -250,9 +258,11 @@ module _ (schema : List Table) (query : Query) (table : Table) where
 
   plain_passes : (conjuncts : List Conjunct) → IsFirstForm schema query table conjuncts → is_plain_table table ≡ true
   plain_passes conjuncts form =
-      rw (form.no_keys, form.no_checks, form.no_foreign, every_passes is_plain_column table.columns (recursion_from_All (λ column. is_plain_column column ≡ true) table.columns form.plain_columns)) refl
+      let names : list_all has_plain_name table.columns ≡ true = every_passes has_plain_name table.columns (recursion_from_All (λ column. has_plain_name column ≡ true) table.columns form.plain_names) in
+      let columns : list_all is_plain_column table.columns ≡ true = every_passes is_plain_column table.columns (recursion_from_All (λ column. is_plain_column column ≡ true) table.columns form.plain_columns) in
+      rw (form.no_keys, form.no_checks, form.no_foreign, form.plain_name, names, columns) refl
 
-  query_passes : (conjuncts : List Conjunct) → IsFirstForm schema query table conjuncts → is_plain_query (length table.columns) query ≡ true
+  query_passes : (conjuncts : List Conjunct) → IsFirstForm schema query table conjuncts → is_plain_query table query ≡ true
   query_passes conjuncts form =
       let n = length table.columns in
       let fit = fit_both n conjuncts (recursion_from_All (λ (x : Conjunct). is_one_range x.op ≡ true) conjuncts form.ranges)
@@ -263,15 +273,17 @@ module _ (schema : List Table) (query : Query) (table : Table) where
       ∙ and_from (is_column n form.one_item.0.term) (not form.one_item.0.star)
       (ap (is_column n) form.one_item.3 ∙ column_passes n form.one_item.1 form.one_item.5)
       (ap not form.one_item.4) in
-      let entry_is : is_one is_plain_entry query.block.entries ≡ true =
-      ap (is_one is_plain_entry) form.one_entry.1 ∙ ap (λ t. nat_eq t 0) form.one_entry.2 in
+      let entry_is : is_one (is_plain_entry table.name) query.block.entries ≡ true =
+      ap (is_one (is_plain_entry table.name)) form.one_entry.1
+      ∙ and_from (nat_eq form.one_entry.0.table 0) (bytes_eq form.one_entry.0.name table.name)
+      (ap (λ t. nat_eq t 0) form.one_entry.2) ((bytes_eq-Decides form.one_entry.0.name table.name).1 form.one_entry.3) in
       rw (form.no_distinct, item_is, entry_is, filter_is, form.no_order) refl
 
 pub form_found : (schema : List Table) (query : Query) → is_first_form schema query ≡ true →
     (table : Table) × (conjuncts : List Conjunct) × IsFirstForm schema query table conjuncts
 form_found schema query test =
-    let found = one_found (λ (table : Table). is_plain_table table && is_plain_query (length table.columns) query) schema test in
-    let both = and_parts (is_plain_table found.0) (is_plain_query (length found.0.columns) query) found.2 in
+    let found = one_found (λ (table : Table). is_plain_table table && is_plain_query table query) schema test in
+    let both = and_parts (is_plain_table found.0) (is_plain_query found.0 query) found.2 in
     let form = form_of schema query found.0 found.1 both.0 both.1 in
     (found.0, form.0, form.1)
 
@@ -279,4 +291,4 @@ pub form_passes : (schema : List Table) (query : Query) (table : Table) (conjunc
     IsFirstForm schema query table conjuncts → is_first_form schema query ≡ true
 form_passes schema query table conjuncts form =
     ap (λ s. is_first_form s query) form.one_table
-    ∙ and_from (is_plain_table table) (is_plain_query (length table.columns) query) (plain_passes schema query table conjuncts form) (query_passes schema query table conjuncts form)
+    ∙ and_from (is_plain_table table) (is_plain_query table query) (plain_passes schema query table conjuncts form) (query_passes schema query table conjuncts form)

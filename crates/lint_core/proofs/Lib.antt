@@ -12,5 +12,6 @@ mod Truths
 mod Failures
 mod Levels
 mod Fitting
+mod PlainWords
 mod FirstForms
 mod Examples

@@ -1,9 +1,11 @@
 -- The questions that are judged so far are those about queries of the first form: the schema is one table
 -- of number columns without constraints, the query selects one of its columns, and its WHERE is
--- comparisons of a column with a number, by an operator other than <>, joined by AND.
+-- comparisons of a column with a number, by an operator other than <>, joined by AND. The names are plain
+-- words, and the table has no other name in the query.
 use Rattle.std.specs.Prelude.{ℕ, ℤ, pos, ◌<◌, ◌≤◌, ◌≡◌, Bool, true, false, ◌&&◌, not, nat_eq, nat_lt, nat_le, List, [], ◌∷◌, length, map, is_none, None}
 use Rattle.std.specs.List.{All, list_all}
 use Rattle.std.specs.Ordering.{int_eq}
+use Rattle.std.specs.Str.{bytes_eq}
 use Rattle.lint_base.specs.declared.place.Span.{Span}
 use Rattle.lint_tables.specs.declared.op.Op.{Op}
 use Rattle.lint_tables.specs.declared.op.Op.TheVariants.{Eq, Ne, Lt, Le, Gt, Ge}
@@ -21,6 +23,7 @@ use Rattle.lint_core.specs.declared.condition.Block.{Block}
 use Rattle.lint_core.specs.declared.condition.Entry.{Entry}
 use Rattle.lint_core.specs.declared.query.Item.{Item}
 use Rattle.lint_core.specs.declared.query.Query.{Query}
+use Rattle.lint_core.specs.PlainWord.{is_plain_word}
 
 -- a comparison of a column of the one table with a number
 pub record Conjunct : Type 0 where
@@ -55,11 +58,17 @@ is_number (domain.Text length) = false
 abbrev pub is_plain_column : Column → Bool
 is_plain_column column = is_number column.domain && not column.not_null
 
--- The schema is this one table, without constraints. The query has no DISTINCT, no ORDER BY, one written
--- item, which is a column of the table, one entry, and this WHERE, which names the table's columns. (A query
--- has at most 4,096 tokens, and so fewer comparisons.)
+abbrev pub has_plain_name : Column → Bool
+has_plain_name column = is_plain_word column.name
+
+-- The schema is this one table, without constraints, and its name and its columns' names are plain words. The
+-- query has no DISTINCT, no ORDER BY, one written item, which is a column of the table, one entry, which has
+-- the table's name, and this WHERE, which names the table's columns. (A query has at most 4,096 tokens, and so
+-- fewer comparisons.)
 pub record IsFirstForm (schema : List Table) (query : Query) (table : Table) (conjuncts : List Conjunct) : Type 0 where
   pub one_table : schema ≡ table ∷ []
+  pub plain_name : is_plain_word table.name ≡ true
+  pub plain_names : All (λ column. has_plain_name column ≡ true) table.columns
   pub plain_columns : All (λ column. is_plain_column column ≡ true) table.columns
   pub no_keys : table.keys ≡ []
   pub no_checks : table.checks ≡ []
@@ -67,7 +76,7 @@ pub record IsFirstForm (schema : List Table) (query : Query) (table : Table) (co
   pub no_distinct : query.distinct ≡ None
   pub one_item : (item : Item) × (column : ℕ) × (query.items ≡ item ∷ []) × (item.term ≡ Cell 0 0 column (pos 0)) × (item.star ≡ false) × (column < length table.columns)
   pub no_order : query.order ≡ []
-  pub one_entry : (entry : Entry) × (query.block.entries ≡ entry ∷ []) × (entry.table ≡ 0)
+  pub one_entry : (entry : Entry) × (query.block.entries ≡ entry ∷ []) × (entry.table ≡ 0) × (entry.name ≡ table.name)
   pub filter : query.block.cond ≡ where_cond conjuncts
   pub some : 0 < length conjuncts
   pub few : length conjuncts ≤ 4096
@@ -110,23 +119,29 @@ is_one test (x ∷ []) = test x
 is_one test (x ∷ y ∷ xs) = false
 
 abbrev pub is_plain_table : Table → Bool
-is_plain_table table = list_all is_plain_column table.columns && nat_eq (length table.keys) 0 && nat_eq (length table.checks) 0 && nat_eq (length table.foreign) 0
+is_plain_table table =
+    is_plain_word table.name
+    && list_all has_plain_name table.columns
+    && list_all is_plain_column table.columns
+    && nat_eq (length table.keys) 0
+    && nat_eq (length table.checks) 0
+    && nat_eq (length table.foreign) 0
 
 abbrev pub is_plain_item : ℕ → Item → Bool
 is_plain_item count item = is_column count item.term && not item.star
 
-abbrev pub is_plain_entry : Entry → Bool
-is_plain_entry entry = nat_eq entry.table 0
+-- the entry is of the one table, and has this name
+abbrev pub is_plain_entry : List ℕ → Entry → Bool
+is_plain_entry name entry = nat_eq entry.table 0 && bytes_eq entry.name name
 
--- the one table has so many columns
-abbrev pub is_plain_query : ℕ → Query → Bool
-is_plain_query count query =
+abbrev pub is_plain_query : Table → Query → Bool
+is_plain_query table query =
     is_none query.distinct
-    && is_one (is_plain_item count) query.items
-    && is_one is_plain_entry query.block.entries
-    && is_where count query.block.cond
+    && is_one (is_plain_item (length table.columns)) query.items
+    && is_one (is_plain_entry table.name) query.block.entries
+    && is_where (length table.columns) query.block.cond
     && nat_eq (length query.order) 0
 
 -- the query is of the first form under the schema
 abbrev pub is_first_form : List Table → Query → Bool
-is_first_form schema query = is_one (λ table. is_plain_table table && is_plain_query (length table.columns) query) schema
+is_first_form schema query = is_one (λ table. is_plain_table table && is_plain_query table query) schema

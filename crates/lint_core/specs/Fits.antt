@@ -30,12 +30,6 @@ is_plain (term.Number value unit) = true
 is_plain (term.Text text) = true
 is_plain term.Null = true
 
-abbrev pub is_cell : Term → Bool
-is_cell (term.Cell level entry column added) = true
-is_cell (term.Number value unit) = false
-is_cell (term.Text text) = false
-is_cell term.Null = false
-
 -- the tables of a FROM list
 abbrev pub tables_of : List Entry → List ℕ
 tables_of entries = map (λ (e : Entry). e.table) entries
@@ -109,9 +103,9 @@ module _ (schema : List Table) where
   abbrev pub item_fits : List (List ℕ) → Item → Bool
   item_fits tables item = term_fits tables item.term && is_plain item.term
 
-  -- an order key is a column
+  -- nothing is added to an order key
   abbrev pub order_fits : List (List ℕ) → Term → Bool
-  order_fits tables key = term_fits tables key && is_plain key && is_cell key
+  order_fits tables key = term_fits tables key && is_plain key
 
 -- one layer of the number of conditions: each counts, those of subqueries too
 abbrev pub count_step : Cond-F ℕ ℕ → ℕ
@@ -154,7 +148,7 @@ check_fits schema table check = is_flat check && nat_le (count_conditions check)
 abbrev pub main_tables : Query → List (List ℕ)
 main_tables query = tables_of (out-Block query.block).entries ∷ []
 
--- at most 256 items, each a term that fits with nothing added, and each order key a column that fits
+-- at most 256 items; each item and each order key is a term that fits with nothing added
 unfoldable pub selection_fits_in : List Table → List (List ℕ) → Query → Bool
 selection_fits_in schema tables query =
     nat_le (length query.items) 256

@@ -9,6 +9,7 @@ pub mod Truth
 pub mod Comparison
 pub mod Condition
 pub mod Question
+pub mod PlainWord
 pub mod FirstForm
 pub mod Formula
 pub mod Translation

@@ -1,12 +1,59 @@
 //! The test of the first form, which the questions that are judged so far are about.
 ghost use Rattle.std.specs.Prelude.{◌≡◌};
 ghost use Rattle.std.specs.List.{list_all};
-ghost use Rattle.lint_core.specs.FirstForm.{is_one_range, is_plain_column, is_column, is_literal, is_conjunct, is_where, is_one, is_plain_table, is_plain_item, is_plain_entry, is_plain_query, is_first_form};
+ghost use Rattle.std.specs.Str.{bytes_eq};
+ghost use Rattle.lint_core.specs.PlainWord.{begins_word, goes_on_word, is_plain_word};
+ghost use Rattle.lint_core.specs.FirstForm.{is_one_range, is_plain_column, has_plain_name, is_column, is_literal, is_conjunct, is_where, is_one, is_plain_table, is_plain_item, is_plain_entry, is_plain_query, is_first_form};
 
 use crate::condition::{Cond, Entry, Term};
 use crate::query::{Item, Query};
 use crate::schema::{Column, Domain, Schema, Table};
-use lint_tables::Op;
+use lint_base::Str;
+use lint_tables::{Op, RESERVED};
+
+fn begins_word(byte: u8) -> bool
+    ensures { result ≡ begins_word byte }
+{
+    byte.is_ascii_uppercase()
+}
+
+fn goes_on_word(byte: u8) -> bool
+    ensures { result ≡ goes_on_word byte }
+{
+    begins_word(byte) || byte.is_ascii_digit() || byte == b'_'
+}
+
+fn go_on_word(bytes: &[u8]) -> bool
+    ensures { result ≡ list_all goes_on_word bytes.now }
+{
+    bytes.iter().all(|b| goes_on_word(*b))
+}
+
+/// Whether the bytes are a letter A to Z, and then letters, digits and `_`, and no reserved word.
+fn are_plain_word(bytes: &[u8]) -> bool
+    ensures { result ≡ is_plain_word bytes.now }
+{
+    match bytes {
+        [first, rest @ ..] => {
+            begins_word(*first) && go_on_word(rest) && RESERVED.find(bytes).is_none()
+        }
+        _ => false,
+    }
+}
+
+#[tactic(auto, using(crate::proofs::PlainWords::plain_bytes))]
+fn is_plain_word(name: &Str) -> bool
+    ensures { result ≡ is_plain_word name.now }
+{
+    are_plain_word(name.as_str().as_bytes())
+}
+
+#[tactic(auto, using(crate::proofs::PlainWords::same_bytes))]
+fn is_same(name: &Str, other: &Str) -> bool
+    ensures { result ≡ bytes_eq name.now other.now }
+{
+    name.as_str() == other.as_str()
+}
 
 fn is_one_range(op: Op) -> bool
     ensures { result ≡ is_one_range op }
@@ -85,11 +132,19 @@ fn are_plain(columns: &[Column]) -> bool
     columns.iter().all(|c| c.is_plain())
 }
 
+fn have_plain_names(columns: &[Column]) -> bool
+    ensures { result ≡ list_all has_plain_name columns.now }
+{
+    columns.iter().all(|c| is_plain_word(&c.name))
+}
+
 impl Table {
     fn is_plain(&self) -> bool
         ensures { result ≡ is_plain_table self.now }
     {
-        are_plain(self.columns.as_slice())
+        is_plain_word(&self.name)
+            && have_plain_names(self.columns.as_slice())
+            && are_plain(self.columns.as_slice())
             && self.keys.as_slice().is_empty()
             && self.checks.as_slice().is_empty()
             && self.foreign.as_slice().is_empty()
@@ -105,34 +160,37 @@ fn is_one_item(items: &[Item], count: usize) -> bool
     }
 }
 
-fn is_one_entry(entries: &[Entry]) -> bool
-    ensures { result ≡ is_one is_plain_entry entries.now }
+fn is_one_entry(entries: &[Entry], name: &Str) -> bool
+    ensures { result ≡ is_one (is_plain_entry name.now) entries.now }
 {
     match entries {
-        [entry] => entry.table == 0,
+        [entry] => entry.table == 0 && is_same(&entry.name, name),
         _ => false,
     }
 }
 
 impl Query {
-    fn is_plain(&self, count: usize) -> bool
-        ensures { result ≡ is_plain_query count self.now }
+    fn is_plain(&self, table: &Table) -> bool
+        ensures { result ≡ is_plain_query table.now self.now }
     {
+        let count = table.columns.as_slice().len();
         self.distinct.is_none()
             && is_one_item(self.items.as_slice(), count)
-            && is_one_entry(self.block.entries.as_slice())
+            && is_one_entry(self.block.entries.as_slice(), &table.name)
             && self.block.cond.is_where(count)
             && self.order.as_slice().is_empty()
     }
 
     /// Whether the query is of the first form: the schema is one table of number columns without
     /// constraints, the query selects one of its columns, and its WHERE is one comparison, or an AND of
-    /// 2 to 4,096, of a column with a number by an operator other than `<>`. It takes no memory.
+    /// 2 to 4,096, of a column with a number by an operator other than `<>`. The names of the table and its
+    /// columns are letters A to Z with digits and `_`, begin with a letter and are no reserved words, and the
+    /// query gives the table no other name. It takes no memory.
     pub fn is_first_form(&self, schema: &Schema) -> bool
         ensures { result ≡ is_first_form schema.now self.now }
     {
         match schema.tables().as_slice() {
-            [table] => table.is_plain() && self.is_plain(table.columns.as_slice().len()),
+            [table] => table.is_plain() && self.is_plain(table),
             _ => false,
         }
     }
@@ -169,6 +227,8 @@ mod tests {
         NotNull,
         TextColumn,
         Unique,
+        LowerCase,
+        Alias,
     }
 
     fn cell(column: u32, plus: i64) -> Term {
@@ -221,12 +281,14 @@ mod tests {
         }
     }
 
-    fn entries(alloc: Global, count: u32) -> Result<Items<Entry>, NoMemory> {
+    fn entries(alloc: Global, change: Change) -> Result<Items<Entry>, NoMemory> {
+        let name = if change == Change::Alias { "U" } else { "T" };
+        let count = if change == Change::TwoEntries { 2 } else { 1 };
         let mut entries = Items::new(alloc);
         for _ in 0..count {
             entries.push(Entry {
                 table: 0,
-                name: Str::from_str(alloc, "T")?,
+                name: Str::from_str(alloc, name)?,
                 span: NOWHERE,
             })?;
         }
@@ -244,7 +306,6 @@ mod tests {
         if change == Change::Order {
             order.push(cell(0, 0))?;
         }
-        let count = if change == Change::TwoEntries { 2 } else { 1 };
         Ok(Query {
             distinct: if change == Change::Distinct {
                 Some(NOWHERE)
@@ -253,7 +314,7 @@ mod tests {
             },
             items,
             block: Block {
-                entries: entries(alloc, count)?,
+                entries: entries(alloc, change)?,
                 cond: filter(alloc, change)?,
                 span: NOWHERE,
             },
@@ -263,8 +324,13 @@ mod tests {
 
     fn schema(alloc: Global, change: Change) -> Result<Option<Schema>, NoMemory> {
         let mut columns = Items::new(alloc);
+        let name = if change == Change::LowerCase {
+            "a"
+        } else {
+            "A"
+        };
         columns.push(Column {
-            name: Str::from_str(alloc, "A")?,
+            name: Str::from_str(alloc, name)?,
             domain: match change {
                 Change::TextColumn => Domain::Text { length: 3 },
                 _ => Domain::Number {
@@ -312,6 +378,8 @@ mod tests {
             (Change::NotNull, false),
             (Change::TextColumn, false),
             (Change::Unique, false),
+            (Change::LowerCase, false),
+            (Change::Alias, false),
         ] {
             let schema = schema(alloc, change)?.ok_or("a schema")?;
             let query = query(alloc, change)?;

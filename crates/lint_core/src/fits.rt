@@ -303,18 +303,17 @@ fn items_fit(items: &[Item], tables: &[Table], levels: &Levels) -> bool
 fn order_fits(keys: &[Term], tables: &[Table], levels: &Levels) -> bool
     ensures { result ≡ list_all (order_fits tables.now (tables_of_levels levels.now)) keys.now }
 {
-    keys.iter().all(|k| {
-        matches!(k, Term::Cell { .. }) && k.kind(tables, levels).is_some() && k.is_plain()
-    })
+    keys.iter()
+        .all(|k| k.kind(tables, levels).is_some() && k.is_plain())
 }
 
 impl Query {
     /// Whether the query fits the schema. Every position in it exists, where tables, levels, entries and
     /// columns count from 0. The two sides of each comparison are of one kind or one is NULL, and texts
     /// are compared by `=` and `<>` alone, also with NULL; what a subquery of IN or of an operator selects
-    /// is a side too. Nothing is added to a text, to what is selected or to an order key, and an order
-    /// key is a column. There are at most 16 entries in each FROM list, 256 items, and 65,536 conditions,
-    /// those of subqueries counted. It takes no memory.
+    /// is a side too. Nothing is added to a text, to what is selected or to an order key. There are at most
+    /// 16 entries in each FROM list, 256 items, and 65,536 conditions, those of subqueries counted. It takes
+    /// no memory.
     pub fn fits(&self, schema: &Schema) -> bool
         ensures { result ≡ query_fits schema.now self.now }
     {
@@ -655,7 +654,7 @@ mod tests {
             (Cell(0, 1, 0, 0), 1, NUMBER, 0, 1, false),
             (NUMBER, 1, Cell(0, 0, 0, 1), 0, 1, false),
             (NUMBER, 1, Cell(0, 0, 2, 0), 0, 1, false),
-            (NUMBER, 1, Five, 0, 1, false),
+            (NUMBER, 1, Five, 0, 1, true),
         ] {
             let from = block(alloc, table, entries, Cond::True)?;
             let query = query(alloc, item, count, order, from)?;

@@ -4,8 +4,8 @@
 //! The layer above may use every public type, `Schema::new`, `Query::fits`, `Query::is_first_form` and
 //! the copies. Of `specs/` a reader must believe `Schema` and `Fits` (which schemas and queries there
 //! are), `Domain`, `Database`, `Meets`, `Truth`, `Comparison`, `Condition` and `Question` (what SQL
-//! means), `FirstForm` (which queries are judged so far), `Formula`, `Translation` and `Certificate`
-//! (what a certificate is), and `Answer` (when an answer is right). The laws that join them are
+//! means), `FirstForm` and `PlainWord` (which queries are judged so far), `Formula`, `Translation` and
+//! `Certificate` (what a certificate is), and `Answer` (when an answer is right). The laws that join them are
 //! contracts of functions that do nothing: `first_form_is_tested` (the test of the first form says yes
 //! exactly of these queries), `formula_says_truth` (the formula of a WHERE holds exactly where it is
 //! true), `sentence_says_failure` (the sentence of a question holds exactly where some points refute
