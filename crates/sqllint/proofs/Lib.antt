@@ -1,2 +1,5 @@
 pub mod Appends
+pub mod Entries
+pub mod Quotes
 pub mod Shapes
+pub mod Texts

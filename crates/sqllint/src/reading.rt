@@ -9,7 +9,7 @@ ghost use Rattle.sqllint.specs.Stops.{StopsAtSchema, StopsAtQueries, told, IsSch
 
 use crate::outcome::{Stop, Which};
 use lint_base::{Items, NoMemory, ReadStop, Shelf, Span, TextStop, read_file};
-use lint_core::{Query, QueryResult, QueryRun, Question, Schema};
+use lint_core::{Query, QueryResult, QueryRun, Question, Schema, first_form_is_tested};
 use lint_engine::judge_empty;
 use sql_bind::{bind_query, bind_schema};
 use sql_lex::{lex, split_queries};
@@ -45,6 +45,7 @@ fn answered(
             answers: Items::new(alloc),
         });
     }
+    first_form_is_tested();
     let answer = judge_empty(alloc, schema, &query, number)?;
     Ok(QueryResult::Answered {
         query,
@@ -86,7 +87,26 @@ fn query_of(
     bind_query(alloc, schema, &tree)
 }
 
-/// The entry of a piece, whatever stands in the other pieces.
+/// What becomes of a piece, whatever stands in the others.
+fn result_of(
+    alloc: Global,
+    schema: &Schema,
+    text: &[u8],
+    piece: Span,
+    number: u32,
+) -> Result<QueryResult, NoMemory>
+    requires short { length text.now ≤ 1048576 }
+    requires within { IsWithin (length text.now) piece }
+    ensures { IfOk result (λ r. IsRightResult schema.now number text.now (record { span = piece; result = r }) r) }
+{
+    match query_of(alloc, schema, text, piece) {
+        Ok(query) => answered(alloc, schema, query, number),
+        Err(TextStop::Refused(refusal)) => Ok(QueryResult::Refused(refusal)),
+        Err(TextStop::NoMemory) => Err(NoMemory),
+    }
+}
+
+/// The entry of a piece.
 fn entry(
     alloc: Global,
     schema: &Schema,
@@ -99,11 +119,7 @@ fn entry(
     ensures span { IfOk result (λ q. q.span ≡ piece) }
     ensures right { IfOk result (λ q. IsRightResult schema.now number text.now q q.result) }
 {
-    let result = match query_of(alloc, schema, text, piece) {
-        Ok(query) => answered(alloc, schema, query, number)?,
-        Err(TextStop::Refused(refusal)) => QueryResult::Refused(refusal),
-        Err(TextStop::NoMemory) => return Err(NoMemory),
-    };
+    let result = result_of(alloc, schema, text, piece, number)?;
     Ok(QueryRun {
         span: piece,
         result,
@@ -118,7 +134,8 @@ fn runs_of(alloc: Global, schema: &Schema, text: &[u8]) -> Result<Items<QueryRun
     let mut runs = Items::new(alloc);
     let mut number = 1;
     for piece in split_queries(text) {
-        runs.push(entry(alloc, schema, text, piece, number)?)?;
+        let run = entry(alloc, schema, text, piece, number)?;
+        runs.push(run)?;
         number += 1;
     }
     Ok(runs)

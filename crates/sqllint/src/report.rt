@@ -1,7 +1,8 @@
 //! The bytes that a run writes, as `specs/Text.antt` says them.
 ghost use Rattle.std.specs.Prelude.{◌≡◌, ℕ, ◌+◌, ◌<◌, ◌^◌, ◌++◌, ◌∷◌, [], Option, length, OnOk, codes, string_bytes, encode_utf8_all};
 ghost use Rattle.std.specs.Fmt.{decimal, signed_decimal};
-ghost use Rattle.sqllint.specs.Text.{texts, joined, span_text, fault_text, count_text, refusal_text, edge_text, step_text, steps_text, value_text, target_text, insert_line, insert_lines, level_text, places_text, points_text, at_line, counter_text, always_text, not_always_text, answer_text, question_text, asked_text, answers_text, result_text, query_line, queries_text, report_text, which_text, schema_refused_text, stop_text, run_text};
+ghost use Rattle.std.specs.Str.{chars};
+ghost use Rattle.sqllint.specs.Text.{texts, joined, span_text, fault_text, count_text, refusal_text, edge_text, step_text, steps_text, doubled, value_text, target_text, insert_line, insert_lines, level_text, places_text, points_text, at_line, counter_text, always_text, not_always_text, answer_text, question_text, asked_text, answers_text, result_text, query_line, queries_text, report_text, which_text, schema_refused_text, stop_text, run_text};
 
 use crate::outcome::{Stop, Which};
 use lint_base::{Fault, Items, Refusal, Span, Str};
@@ -180,13 +181,42 @@ fn push_steps(out: &mut String, steps: &[Step]) -> Result<(), AllocError>
     push_text(out, "]")
 }
 
+#[tactic(auto, unfolding(crate::specs::Text::doubled))]
+fn push_doubled_char(out: &mut String, character: char) -> Result<(), AllocError>
+    ensures { OnOk result (string_bytes out.new ≡ string_bytes out.old ++ encode_utf8_all (doubled 39 (character ∷ []))) }
+{
+    if character == '\'' {
+        push_text(out, "''")
+    } else {
+        out.push(character)
+    }
+}
+
+fn push_doubled(out: &mut String, text: &str) -> Result<(), AllocError>
+    ensures { OnOk result (string_bytes out.new ≡ string_bytes out.old ++ encode_utf8_all (doubled 39 (chars text.now))) }
+{
+    for character in text.chars() {
+        push_doubled_char(out, character)?;
+    }
+    Ok(())
+}
+
+fn push_quoted(out: &mut String, text: &Str) -> Result<(), AllocError>
+    ensures { OnOk result (string_bytes out.new ≡ string_bytes out.old ++ (codes "'" ++ encode_utf8_all (doubled 39 text.now) ++ codes "'")) }
+{
+    push_text(out, "'")?;
+    push_doubled(out, text.as_str())?;
+    push_text(out, "'")
+}
+
 #[tactic(auto, unfolding(crate::specs::Text::value_text))]
-fn push_value(out: &mut String, value: Value) -> Result<(), AllocError>
-    ensures { OnOk result (string_bytes out.new ≡ string_bytes out.old ++ value_text value) }
+fn push_value(out: &mut String, value: &Value) -> Result<(), AllocError>
+    ensures { OnOk result (string_bytes out.new ≡ string_bytes out.old ++ value_text value.now) }
 {
     match value {
         Value::Null => push_text(out, "NULL"),
-        Value::Int(number) => push_integer(out, number),
+        Value::Int(number) => push_integer(out, *number),
+        Value::Text(text) => push_quoted(out, text),
     }
 }
 
@@ -195,7 +225,7 @@ fn push_more_values(out: &mut String, values: &[Value]) -> Result<(), AllocError
 {
     for value in values {
         push_text(out, ", ")?;
-        push_value(out, *value)?;
+        push_value(out, value)?;
     }
     Ok(())
 }
@@ -205,7 +235,7 @@ fn push_values(out: &mut String, values: &[Value]) -> Result<(), AllocError>
 {
     match values.split_first() {
         Some((first, more)) => {
-            push_value(out, *first)?;
+            push_value(out, first)?;
             push_more_values(out, more)
         }
         None => Ok(()),
