@@ -23,7 +23,7 @@ pub doubled_more : (start old new cs : List ℕ) (c : ℕ) → old ≡ start ++ 
     → new ≡ start ++ encode_utf8_all (doubled 39 (cs ++ c ∷ []))
 doubled_more start old new cs c before pushed =
     let both : encode_utf8_all (doubled 39 (cs ++ c ∷ [])) ≡ encode_utf8_all (doubled 39 cs) ++ encode_utf8_all (doubled 39 (c ∷ [])) =
-      ap encode_utf8_all (doubled-append 39 cs (c ∷ [])) ∙ encodes-append (doubled 39 cs) (doubled 39 (c ∷ [])) in
+    ap encode_utf8_all (doubled-append 39 cs (c ∷ [])) ∙ encodes-append (doubled 39 cs) (doubled 39 (c ∷ [])) in
     pushed ∙ (ap (λ text. text ++ encode_utf8_all (doubled 39 (c ∷ []))) before ∙ (append_assoc start _ _ ∙ ap (λ text. start ++ text) (sym both)))
 
 -- all of them

@@ -31,8 +31,8 @@ two_queries schema query =
     record {
       schema = schema;
       queries = record { span = from_to 0 20; result = Refused (record { fault = UnknownColumn; span = from_to 7 11; count = 0 }) }
-        ∷ record { span = from_to 22 57; result = Answered query [] [] }
-        ∷ [];
+          ∷ record { span = from_to 22 57; result = Answered query [] [] }
+          ∷ [];
     }
 
 -- the one query of a run, answered

@@ -70,12 +70,7 @@ fn schema_of(alloc: Global, text: &[u8]) -> Result<Schema, TextStop>
 }
 
 /// The query that a piece of a text is, or why it is none.
-fn query_of(
-    alloc: Global,
-    schema: &Schema,
-    text: &[u8],
-    piece: Span,
-) -> Result<Query, TextStop>
+fn query_of(alloc: Global, schema: &Schema, text: &[u8], piece: Span) -> Result<Query, TextStop>
     requires short { length text.now ≤ 1048576 }
     requires within { IsWithin (length text.now) piece }
     ensures read { IfOk result (λ query. ReadsQuery schema.now text.now piece query) }

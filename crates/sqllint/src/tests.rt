@@ -99,7 +99,8 @@ fn queries_are_answered(rt: HostRuntime) -> Result<(), Fail> {
 }
 
 /// Two tables with keys, a CHECK and a foreign key.
-const COMPANY: &str = "CREATE TABLE dept (deptno INTEGER PRIMARY KEY, dname VARCHAR(14) NOT NULL, loc VARCHAR(13) UNIQUE);
+const COMPANY: &str =
+    "CREATE TABLE dept (deptno INTEGER PRIMARY KEY, dname VARCHAR(14) NOT NULL, loc VARCHAR(13) UNIQUE);
 CREATE TABLE emp (empno INTEGER PRIMARY KEY, ename VARCHAR(10) NOT NULL, job VARCHAR(9), mgr INTEGER, sal INTEGER CHECK (sal > 0), deptno INTEGER NOT NULL REFERENCES dept);";
 
 #[test]
@@ -110,13 +111,22 @@ fn each_query_is_read_or_refused(rt: HostRuntime) -> Result<(), Fail> {
             "SELECT enam FROM emp; SELECT ename FROM emp WHERE sal < 0;",
             "query 1 at 0..20\n  refused 22 UnknownColumn at 7..11\nquery 2 at 22..57\n",
         ),
-        ("SELECT ename # FROM emp;", "query 1 at 0..23\n  refused 1 BadByte at 13..14\n"),
-        ("SELECT 'a FROM emp;", "query 1 at 0..19\n  refused 2 OpenQuote at 7..8\n"),
+        (
+            "SELECT ename # FROM emp;",
+            "query 1 at 0..23\n  refused 1 BadByte at 13..14\n",
+        ),
+        (
+            "SELECT 'a FROM emp;",
+            "query 1 at 0..19\n  refused 2 OpenQuote at 7..8\n",
+        ),
         (
             "SELECT ename FROM emp WHERE sal > 9223372036854775808;",
             "query 1 at 0..53\n  refused 3 BigNumber at 34..53\n",
         ),
-        ("SELECT ename FROM emps;", "query 1 at 0..22\n  refused 21 UnknownTable at 18..22\n"),
+        (
+            "SELECT ename FROM emps;",
+            "query 1 at 0..22\n  refused 21 UnknownTable at 18..22\n",
+        ),
         (
             "SELECT deptno FROM emp, dept;",
             "query 1 at 0..28\n  refused 23 AmbiguousColumn at 7..13\n",
@@ -157,7 +167,10 @@ fn each_schema_is_read_or_refused(rt: HostRuntime) -> Result<(), Fail> {
             "CREATE TABLE a (x INTEGER REFERENCES b); CREATE TABLE b (y INTEGER);",
             "stop SchemaRefused 26 NotAKey at 26..38\n",
         ),
-        ("CREATE TABLE t (c VARCHAR(0));", "stop SchemaRefused 29 BadLength at 26..27\n"),
+        (
+            "CREATE TABLE t (c VARCHAR(0));",
+            "stop SchemaRefused 29 BadLength at 26..27\n",
+        ),
         (
             "CREATE TABLE t (a INTEGER, A INTEGER);",
             "stop SchemaRefused 24 DuplicateName at 27..28\n",

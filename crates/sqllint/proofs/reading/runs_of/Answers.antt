@@ -21,7 +21,7 @@ loop-piece-preserved c =
     let right = subst (λ n. IsRightResult c.args.schema.now n c.args.text.now own own.result) before.count c.in_ok-run.ensures.right in
     record {
       spans = subst (λ runs. map span_of runs ++ rest c.next.new.self ≡ pieces c.args.text.now) (sym pushed)
-        (spans_more c.loop-piece.runs own c.in-Some.piece (rest c.loop-piece.piece-iterator) (rest c.next.new.self) (pieces c.args.text.now) before.spans step c.in_ok-run.ensures.span);
+          (spans_more c.loop-piece.runs own c.in-Some.piece (rest c.loop-piece.piece-iterator) (rest c.next.new.self) (pieces c.args.text.now) before.spans step c.in_ok-run.ensures.span);
       within = All-rest (IsWithin (length c.args.text.now)) c.in-Some.piece (rest c.next.new.self) (rest c.loop-piece.piece-iterator) step before.within;
       right = subst (λ runs. AreRightFrom c.args.schema.now 1 c.args.text.now runs) (sym pushed) (right_more c.args.schema.now 1 c.args.text.now c.loop-piece.runs own before.right right);
       count = omega (arith, before.count, ap length pushed, length-append c.loop-piece.runs (own ∷ []));
