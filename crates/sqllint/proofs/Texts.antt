@@ -1,5 +1,5 @@
 -- What a text reads as, and why it is refused, from what the steps of reading it answer.
-use Rattle.std.proofs.Common.{◌≡◌, ℕ, ◌-◌, ◌≤◌, List, length, slice_range, Result, Ok, Err, IfOk, IfErr, subst, arith}
+use Rattle.std.proofs.Common.{◌≡◌, ℕ, ◌-◌, List, length, slice_range, Result, Ok, Err, IfOk, IfErr, subst, arith}
 use Rattle.std.proofs.lemmas.List.{take_all}
 use Rattle.lint_base.specs.declared.place.Span.{Span}
 use Rattle.lint_base.specs.declared.place.TextStop.{TextStop}

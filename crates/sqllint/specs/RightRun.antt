@@ -1,6 +1,6 @@
 -- When what a run says of the queries of a file is right: there is one entry for each piece of the file, in order,
 -- which tells of that piece alone.
-use Rattle.std.specs.Prelude.{ℕ, ◌+◌, Bool, true, false, ◌≡◌, List, [], ◌∷◌, map, ⊤}
+use Rattle.std.specs.Prelude.{ℕ, ◌+◌, true, false, ◌≡◌, List, [], ◌∷◌, map}
 use Rattle.lint_core.specs.declared.schema.Table.{Table}
 use Rattle.lint_core.specs.declared.query.Query.{Query}
 use Rattle.lint_core.specs.declared.query.Question.{Question}

@@ -10,7 +10,6 @@ use Rattle.lint_core.specs.declared.run.Run.{Run}
 use Rattle.sqllint.specs.RightRun.{AreRightQueries}
 use Rattle.sqllint.specs.TextReading.{ReadsSchema, RefusesSchema}
 use Rattle.sqllint.specs.Words.{Paths}
-use Rattle.sqllint.specs.declared.outcome.Which.{Which}
 use Rattle.sqllint.specs.declared.outcome.Which.TheVariants as which
 use Rattle.sqllint.specs.declared.outcome.Stop.{Stop}
 use Rattle.sqllint.specs.declared.outcome.Stop.TheVariants as stop

@@ -1,5 +1,5 @@
 -- The words behind the program's name: two files, the schema and the queries.
-use Rattle.std.specs.Prelude.{ℕ, Bool, true, false, ◌||◌, nat_eq, List, [], ◌∷◌, Option, Some, None, if◌then◌else◌}
+use Rattle.std.specs.Prelude.{ℕ, Bool, false, ◌||◌, nat_eq, List, [], ◌∷◌, Option, Some, None, if◌then◌else◌}
 
 -- a word that begins with `-` is no file
 abbrev pub begins_with_dash : List ℕ → Bool

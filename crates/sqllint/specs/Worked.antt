@@ -1,15 +1,13 @@
 -- Runs whose texts are known by hand: a query that is empty, one that is not, one of which nothing is asked, two that
 -- are refused, and a schema that is refused.
-use Rattle.std.specs.Prelude.{ℕ, ℤ, pos, ◌≡◌, List, [], ◌∷◌, ◌++◌, Option, Some, None, codes, encode_utf8_all}
+use Rattle.std.specs.Prelude.{ℕ, pos, ◌≡◌, List, [], ◌∷◌, Some, None, codes, encode_utf8_all}
 use Rattle.lint_base.specs.declared.place.Span.{Span}
 use Rattle.lint_base.specs.declared.place.Fault.TheVariants.{UnknownColumn, Long, NotAKey}
-use Rattle.lint_base.specs.declared.place.Refusal.{Refusal}
 use Rattle.lint_core.specs.declared.schema.Table.{Table}
 use Rattle.lint_core.specs.declared.certificate.Step.TheVariants as step
 use Rattle.lint_core.specs.declared.certificate.SumEdge.TheVariants as edge
 use Rattle.lint_core.specs.declared.certificate.Cert.{Cert}
 use Rattle.lint_core.specs.declared.database.Value.TheVariants as value
-use Rattle.lint_core.specs.declared.database.Database.{Database}
 use Rattle.lint_core.specs.declared.database.Points.TheVariants.{One}
 use Rattle.lint_core.specs.declared.database.Counter.{Counter}
 use Rattle.lint_core.specs.declared.query.Query.{Query}
@@ -17,7 +15,6 @@ use Rattle.lint_core.specs.declared.query.Question.TheVariants.{Empty}
 use Rattle.lint_core.specs.declared.run.Answer.{Answer}
 use Rattle.lint_core.specs.declared.run.Answer.TheVariants.{Always, NotAlways}
 use Rattle.lint_core.specs.declared.run.QueryResult.TheVariants.{Refused, Answered}
-use Rattle.lint_core.specs.declared.run.QueryRun.{QueryRun}
 use Rattle.lint_core.specs.declared.run.Run.{Run}
 use Rattle.sqllint.specs.declared.outcome.Stop.TheVariants as stop
 use Rattle.sqllint.specs.Text.{run_text}

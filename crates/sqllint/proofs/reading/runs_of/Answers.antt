@@ -1,4 +1,4 @@
-use Rattle.std.proofs.Common.{◌≡◌, ◌+◌, ◌≤◌, ◌++◌, [], ◌∷◌, length, map, ap, sym, subst, length-append, arith}
+use Rattle.std.proofs.Common.{◌≡◌, ◌++◌, [], ◌∷◌, length, map, ap, sym, subst, length-append, arith}
 use Rattle.std.proofs.lemmas.List.Elements.{All-rest}
 use Rattle.sql_lex.specs.Pieces.{pieces}
 use Rattle.sql_lex.specs.Rest.{rest}

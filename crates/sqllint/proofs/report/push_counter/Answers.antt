@@ -1,7 +1,7 @@
-use Rattle.std.proofs.Common.{◌≡◌, ◌++◌, codes, string_bytes, OnOk, ap, ◌∙◌}
+use Rattle.std.proofs.Common.{◌++◌, codes, string_bytes, ap, ◌∙◌}
 use Rattle.std.proofs.lemmas.Result.{on_ok_weaker}
 use Rattle.sqllint.specs.Text.{insert_lines, at_line, counter_text}
-use Rattle.sqllint.proofs.Appends.{then_two, then_three}
+use Rattle.sqllint.proofs.Appends.{then_three}
 use Rattle.sqllint.proofs.report.push_counter.Goals as goal
 
 pub returns : goal.returns

@@ -1,5 +1,4 @@
-use Rattle.std.proofs.Common.{◌≡◌, ◌++◌, ◌+◌, drop, codes, string_bytes}
-use Rattle.std.specs.Fmt.{decimal}
+use Rattle.std.proofs.Common.{◌≡◌, ◌++◌, drop, codes, string_bytes}
 use Rattle.sqllint.specs.Text.{texts, step_text}
 use Rattle.sqllint.proofs.report.push_more_steps.Given as goal
 

@@ -1,7 +1,7 @@
-use Rattle.std.proofs.Common.{◌≡◌, ◌++◌, codes, string_bytes, OnOk, ap, ◌∙◌}
+use Rattle.std.proofs.Common.{codes, string_bytes}
 use Rattle.std.proofs.lemmas.Result.{on_ok_weaker}
 use Rattle.sqllint.specs.Text.{texts, counter_text, not_always_text}
-use Rattle.sqllint.proofs.Appends.{then_two, then_three}
+use Rattle.sqllint.proofs.Appends.{then_two}
 use Rattle.sqllint.proofs.report.push_not_always.Goals as goal
 
 pub returns : goal.returns
