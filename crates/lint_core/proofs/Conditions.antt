@@ -1,8 +1,7 @@
 -- What a condition of each kind means, by its parts.
 use Rattle.std.proofs.Common.{◌≡◌, ◌∙◌, ap, ℕ, Bool, List, map}
 use Rattle.std.proofs.lemmas.Simd.{map-map}
-use Rattle.std.specs.Prelude.{Some, option_and_then}
-use Rattle.std.specs.Option.{option_map}
+use Rattle.std.specs.Prelude.{Ok}
 use Rattle.lint_base.specs.declared.place.Span.{Span}
 use Rattle.lint_tables.specs.declared.op.Op.{Op}
 use Rattle.lint_core.specs.declared.condition.Entry.{Entry}
@@ -13,9 +12,10 @@ use Rattle.lint_core.specs.declared.condition.Cond.TheOpen.{Cond-F}
 use Rattle.lint_core.specs.declared.condition.Block.{Block, fold-Block, fold_out-Block}
 use Rattle.lint_core.specs.declared.database.Truth.TheVariants.{False, True}
 use Rattle.lint_core.specs.declared.database.Database.{Database}
-use Rattle.lint_core.specs.Condition.{truth, Meaning, BlockMeaning, cond_step, block_step, all_present, inner_bindings, term_value, selected, exists_truth, in_truth, items_at, scalar_value}
+use Rattle.lint_core.specs.Condition.{truth, Meaning, BlockMeaning, cond_step, block_step, inner_bindings, term_value, selected, exists_truth, in_truth, items_at, scalar_value}
 use Rattle.lint_core.specs.Truth.{truth_of, not_of, negated_if, and_of, or_of}
 use Rattle.lint_core.specs.Comparison.{compare, is_null}
+use Rattle.lint_core.specs.Evaluation.{and_then, map_ok, all_ok}
 
 module _ (db : Database) where
   -- the meaning of a block
@@ -29,52 +29,52 @@ module _ (db : Database) where
   pub truth_out : (cond : Cond) → truth db cond ≡ layer_truth (out-Cond cond)
   truth_out cond = fold_out-Cond Meaning BlockMeaning (cond_step db) (block_step db) cond
 
-  pub block_truth_is : (block : Block) → block_truth block ≡ inner_bindings db (map (λ (e : Entry). e.table) block.entries) (truth db block.cond)
+  pub block_truth_is : (block : Block) → block_truth block ≡ record { place = block.span; bindings = inner_bindings db (map (λ (e : Entry). e.table) block.entries) (truth db block.cond) }
   block_truth_is block = fold_out-Block Meaning BlockMeaning (cond_step db) (block_step db) block
 
   pub truth_compare : (op : Op) (left right : Term) (span : Span) (tables binding : List (List ℕ)) →
-      truth db (c.Compare op left right span) tables binding ≡ Some (compare op (term_value db tables binding left) (term_value db tables binding right))
+      truth db (c.Compare op left right span) tables binding ≡ Ok (compare op (term_value db tables binding left) (term_value db tables binding right))
   truth_compare op left right span tables binding =
       ap (λ m. m tables binding) (truth_out (c.Compare op left right span) ∙ ap layer_truth (c.outs-Compare op left right span))
 
   pub truth_and : (parts : List Cond) (tables binding : List (List ℕ)) →
-      truth db (c.And parts) tables binding ≡ option_map and_of (all_present (map (λ part. truth db part tables binding) parts))
+      truth db (c.And parts) tables binding ≡ map_ok and_of (all_ok (map (λ part. truth db part tables binding) parts))
   truth_and parts tables binding =
       ap (λ m. m tables binding) (truth_out (c.And parts) ∙ ap layer_truth (c.outs-And parts))
-      ∙ ap (λ ts. option_map and_of (all_present ts)) (map-map (λ part. part tables binding) (truth db) parts)
+      ∙ ap (λ ts. map_ok and_of (all_ok ts)) (map-map (λ part. part tables binding) (truth db) parts)
 
   pub truth_or : (parts : List Cond) (tables binding : List (List ℕ)) →
-      truth db (c.Or parts) tables binding ≡ option_map or_of (all_present (map (λ part. truth db part tables binding) parts))
+      truth db (c.Or parts) tables binding ≡ map_ok or_of (all_ok (map (λ part. truth db part tables binding) parts))
   truth_or parts tables binding =
       ap (λ m. m tables binding) (truth_out (c.Or parts) ∙ ap layer_truth (c.outs-Or parts))
-      ∙ ap (λ ts. option_map or_of (all_present ts)) (map-map (λ part. part tables binding) (truth db) parts)
+      ∙ ap (λ ts. map_ok or_of (all_ok ts)) (map-map (λ part. part tables binding) (truth db) parts)
 
-  pub truth_true : (tables binding : List (List ℕ)) → truth db c.True tables binding ≡ Some True
+  pub truth_true : (tables binding : List (List ℕ)) → truth db c.True tables binding ≡ Ok True
   truth_true tables binding = ap (λ m. m tables binding) (truth_out c.True ∙ ap layer_truth c.outs-True)
 
-  pub truth_false : (tables binding : List (List ℕ)) → truth db c.False tables binding ≡ Some False
+  pub truth_false : (tables binding : List (List ℕ)) → truth db c.False tables binding ≡ Ok False
   truth_false tables binding = ap (λ m. m tables binding) (truth_out c.False ∙ ap layer_truth c.outs-False)
 
   pub truth_not : (part : Cond) (tables binding : List (List ℕ)) →
-      truth db (c.Not part) tables binding ≡ option_map not_of (truth db part tables binding)
+      truth db (c.Not part) tables binding ≡ map_ok not_of (truth db part tables binding)
   truth_not part tables binding = ap (λ m. m tables binding) (truth_out (c.Not part) ∙ ap layer_truth (c.outs-Not part))
 
   pub truth_is_null : (term : Term) (negated : Bool) (span : Span) (tables binding : List (List ℕ)) →
-      truth db (c.IsNull term negated span) tables binding ≡ Some (negated_if negated (truth_of (is_null (term_value db tables binding term))))
+      truth db (c.IsNull term negated span) tables binding ≡ Ok (negated_if negated (truth_of (is_null (term_value db tables binding term))))
   truth_is_null term negated span tables binding =
       ap (λ m. m tables binding) (truth_out (c.IsNull term negated span) ∙ ap layer_truth (c.outs-IsNull term negated span))
 
   pub truth_exists : (block : Block) (span : Span) (tables binding : List (List ℕ)) →
-      truth db (c.Exists block span) tables binding ≡ option_map exists_truth (selected (block_truth block tables binding))
+      truth db (c.Exists block span) tables binding ≡ map_ok exists_truth (selected ((block_truth block).bindings tables binding))
   truth_exists block span tables binding =
       ap (λ m. m tables binding) (truth_out (c.Exists block span) ∙ ap layer_truth (c.outs-Exists block span))
 
   pub truth_in : (term : Term) (block : Block) (item : Term) (negated : Bool) (span : Span) (tables binding : List (List ℕ)) →
-      truth db (c.In term block item negated span) tables binding ≡ option_map (λ inners. negated_if negated (in_truth (term_value db tables binding term) (items_at db item inners))) (selected (block_truth block tables binding))
+      truth db (c.In term block item negated span) tables binding ≡ map_ok (λ inners. negated_if negated (in_truth (term_value db tables binding term) (items_at db item inners))) (selected ((block_truth block).bindings tables binding))
   truth_in term block item negated span tables binding =
       ap (λ m. m tables binding) (truth_out (c.In term block item negated span) ∙ ap layer_truth (c.outs-In term block item negated span))
 
   pub truth_scalar : (op : Op) (left : Term) (block : Block) (item : Term) (span : Span) (tables binding : List (List ℕ)) →
-      truth db (c.Scalar op left block item span) tables binding ≡ option_and_then (λ inners. option_map (compare op (term_value db tables binding left)) (scalar_value (items_at db item inners))) (selected (block_truth block tables binding))
+      truth db (c.Scalar op left block item span) tables binding ≡ and_then (λ inners. map_ok (compare op (term_value db tables binding left)) (scalar_value (block_truth block).place (items_at db item inners))) (selected ((block_truth block).bindings tables binding))
   truth_scalar op left block item span tables binding =
       ap (λ m. m tables binding) (truth_out (c.Scalar op left block item span) ∙ ap layer_truth (c.outs-Scalar op left block item span))

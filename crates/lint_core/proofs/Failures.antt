@@ -1,27 +1,33 @@
--- For queries of the first form the sentence of a question holds exactly where some points refute it.
+-- For queries of the first form the counter sentence of E1 holds exactly where some points refute it.
 use Rattle.std.proofs.Common.{◌≡◌, Bool, ◌∙◌, sym, ap, refl, subst, ℕ, true, false, List, [], ◌∷◌, ◌++◌, length, map, append_assoc}
 use Rattle.std.proofs.lemmas.Bool.{and_parts, and_from}
 use Rattle.std.proofs.lemmas.List.{append-nil}
 use Rattle.std.proofs.lemmas.List.Elements.{recursion_from_All}
-use Rattle.std.specs.Prelude.{nat_lt}
+use Rattle.std.specs.Prelude.{nat_lt, if◌then◌else◌, ◌&&◌, Ok, Err}
 use Rattle.std.specs.List.{AllByRecursion}
 use Rattle.lint_core.specs.declared.condition.Cond.{Cond}
 use Rattle.lint_core.specs.declared.condition.Entry.{Entry}
 use Rattle.lint_core.specs.declared.formula.Formula.{Formula}
 use Rattle.lint_core.specs.declared.formula.Formula.TheVariants.{Exists}
 use Rattle.lint_core.specs.declared.database.Database.{Database}
+use Rattle.lint_core.specs.declared.database.Binding.{Binding}
 use Rattle.lint_core.specs.declared.database.Points.{Points}
-use Rattle.lint_core.specs.declared.database.Points.TheVariants.{One}
+use Rattle.lint_core.specs.declared.database.Points.TheVariants.{One, Two, Without}
 use Rattle.lint_core.specs.declared.query.Query.{Query}
-use Rattle.lint_core.specs.declared.query.Question.{Question}
 use Rattle.lint_core.specs.declared.query.Question.TheVariants.{Empty}
 use Rattle.lint_core.specs.declared.schema.Table.{Table}
-use Rattle.lint_core.specs.Condition.{is_true_at}
+use Rattle.lint_core.specs.declared.database.Truth.{Truth}
+use Rattle.lint_core.specs.declared.database.Value.TheVariants.{Null}
+use Rattle.lint_core.specs.Condition.{is_true_at, has_truth}
+use Rattle.lint_core.specs.Evaluation.{Evaluated, map_ok, all_hold}
+use Rattle.lint_core.specs.Fits.{main_tables}
+use Rattle.lint_core.specs.Points.{are_rows, is_binding}
+use Rattle.lint_core.specs.Truth.{is_true}
 use Rattle.lint_core.specs.Database.{Place, rows_of, below}
 use Rattle.lint_core.specs.FirstForm.{Conjunct, IsFirstForm, is_one_range}
 use Rattle.lint_core.specs.Formula.{holds}
-use Rattle.lint_core.specs.Question.{query_tables, are_rows, is_binding, where_is_true, refutes}
-use Rattle.lint_core.specs.Translation.{exist_rows, is_true_formula, counter_sentence}
+use Rattle.lint_core.specs.Question.{where_truth, where_is_true, is_known_true, refutes}
+use Rattle.lint_core.specs.Translation.{exist_rows, is_true_formula, empty_counter}
 use Rattle.lint_core.proofs.Lists.{any_map, some_below, any_below}
 use Rattle.lint_core.proofs.Holds.{holds_exists}
 use Rattle.lint_core.proofs.Truths.{one_variable, agrees}
@@ -134,6 +140,17 @@ module _ (db : Database) (cond : Cond) where
       let found = places_found db (is_true_formula (below n ∷ []) cond) tables [] stands in
       (rows_at found.0, found.2, sym (agree found.0 found.1) ∙ found.3)
 
+-- E1 is refuted at a binding of the entries at which the condition is true
+pub known : (bound : Bool) (truth : Evaluated Truth) →
+    is_known_true (if bound then all_hold (map_ok is_true truth ∷ []) else Ok false) ≡ (bound && has_truth is_true truth)
+known false truth = refl
+known true (Err place) = refl
+known true (Ok truth) = at_truth (is_true truth)
+  where
+    at_truth : (b : Bool) → (b && true) ≡ b
+    at_truth true = refl
+    at_truth false = refl
+
 abbrev entry_tables : Query → List ℕ
 entry_tables query = map (λ (e : Entry). e.table) query.block.entries
 
@@ -170,19 +187,22 @@ module _ (schema : List Table) (query : Query) (table : Table) (conjuncts : List
       ∙ (ap (λ ps. holds db (is_true_formula one_variable query.block.cond) ps) one.1
       ∙ (row_agrees one.0 ∙ ap (λ ps. where_is_true db query (rows_at ps ∷ [])) (sym one.1)))
 
-  pub refuted_says : (question : Question) (points : Points) → refutes db query question points ≡ true →
-      holds db (counter_sentence query question) [] ≡ true
-  refuted_says Empty (One binding) refuted =
-      let both = and_parts (is_binding db (query_tables query) binding.levels) (where_is_true db query binding.levels) refuted in
+  pub refuted_says : (points : Points) → refutes db query Empty Null points ≡ true → holds db (empty_counter query) [] ≡ true
+  refuted_says (One binding) refuted =
+      let bound = is_binding db (main_tables query) binding.levels in
+      let both = and_parts bound (where_is_true db query binding.levels) (sym (known bound (where_truth db query binding)) ∙ refuted) in
       let level = one_level db (entry_tables query) binding.levels both.0 in
       let stands_here = subst (λ ls. where_is_true db query ls ≡ true) level.1 both.1 in
       rows_give db query.block.cond (entry_tables query) level.0 (length query.block.entries) places_agree level.2 stands_here
+  refuted_says (Two one two) refuted = cc
+  refuted_says (Without one) refuted = cc
 
-  pub says_refuted : (question : Question) → holds db (counter_sentence query question) [] ≡ true →
-      (points : Points) × (refutes db query question points ≡ true)
-  says_refuted Empty stands =
+  pub says_refuted : holds db (empty_counter query) [] ≡ true → (points : Points) × (refutes db query Empty Null points ≡ true)
+  says_refuted stands =
       let found = rows_found db query.block.cond (entry_tables query) (length query.block.entries) places_agree stands in
-      let rows_bind = and_from (are_rows db (entry_tables query) found.0) true found.1 refl in (
-        One (record { levels = found.0 ∷ [] }),
-        and_from (is_binding db (query_tables query) (found.0 ∷ [])) (where_is_true db query (found.0 ∷ [])) rows_bind found.2,
+      let rows_bind = and_from (are_rows db (entry_tables query) found.0) true found.1 refl in
+      let binding : Binding = record { levels = found.0 ∷ [] } in
+      let bound = is_binding db (main_tables query) (found.0 ∷ []) in (
+        One binding,
+        known bound (where_truth db query binding) ∙ and_from bound (where_is_true db query (found.0 ∷ [])) rows_bind found.2,
       )

@@ -1,7 +1,7 @@
 -- At a row of the table the formula of a WHERE of the first form holds exactly where it is true.
 use Rattle.std.proofs.Common.{◌≡◌, ◌∙◌, sym, ap, refl, ℕ, pos, true, false, ◌&&◌, List, [], ◌∷◌, map}
 use Rattle.std.specs.Prelude.{Option, Some, None, unwrap_or, option_and_then}
-use Rattle.std.specs.Option.{option_map, option_map_or}
+use Rattle.std.specs.Prelude.{Ok}
 use Rattle.std.specs.List.{AllByRecursion, list_all}
 use Rattle.lint_core.specs.declared.condition.Term.TheVariants as term
 use Rattle.lint_core.specs.declared.condition.Block.{Block, fold-Block}
@@ -20,7 +20,8 @@ use Rattle.lint_core.specs.declared.database.Database.{Database}
 use Rattle.lint_core.specs.Database.{Place, value_at}
 use Rattle.lint_core.specs.FirstForm.{Conjunct, conjunct_cond, where_cond, is_one_range}
 use Rattle.lint_core.specs.Formula.{number, holds}
-use Rattle.lint_core.specs.Condition.{truth, is_true_at, all_present}
+use Rattle.lint_core.specs.Condition.{truth, is_true_at, has_truth}
+use Rattle.lint_core.specs.Evaluation.{map_ok, all_ok}
 use Rattle.lint_core.specs.Comparison.{compare, plus}
 use Rattle.lint_core.specs.Translation.{comparison, is_true_step, block_step, is_true_formula}
 use Rattle.lint_core.specs.Truth.{least, and_of, is_true}
@@ -73,7 +74,7 @@ module _ (db : Database) (place : Place) where
   abbrev conjunct_truth : Conjunct → Truth
   conjunct_truth x = compare x.op (plus (unwrap_or (value_at db place x.column) Null) (pos 0)) (Int x.literal)
 
-  truth_of_conjunct : (x : Conjunct) → truth db (conjunct_cond x) tables rows ≡ Some (conjunct_truth x)
+  truth_of_conjunct : (x : Conjunct) → truth db (conjunct_cond x) tables rows ≡ Ok (conjunct_truth x)
   truth_of_conjunct x = truth_compare db x.op (term.Cell 0 0 x.column (pos 0)) (term.Number x.literal Whole) x.span tables rows
 
   conjunct_agrees : (x : Conjunct) → is_one_range x.op ≡ true →
@@ -84,7 +85,7 @@ module _ (db : Database) (place : Place) where
       ∙ sym (compare_is x.op (unwrap_or (value_at db place x.column) Null) (pos 0) x.literal range
       ∙ ap (λ n. test x.op n (pos 0) (Some (pos 0)) x.literal) (number_of_value (value_at db place x.column))))
 
-  all_have_truth : (xs : List Conjunct) → all_present (map (λ part. truth db part tables rows) (map conjunct_cond xs)) ≡ Some (map conjunct_truth xs)
+  all_have_truth : (xs : List Conjunct) → all_ok (map (λ part. truth db part tables rows) (map conjunct_cond xs)) ≡ Ok (map conjunct_truth xs)
   all_have_truth [] = refl
   all_have_truth (x ∷ xs) = rw (truth_of_conjunct x, all_have_truth xs) refl
 
@@ -100,10 +101,10 @@ module _ (db : Database) (place : Place) where
       ap (λ g. holds db g (place ∷ [])) (formula_of_and (map conjunct_cond xs))
       ∙ (holds_and db (map (is_true_formula one_variable) (map conjunct_cond xs)) (place ∷ [])
       ∙ (parts_agree xs ranges
-      ∙ sym (ap (λ o. option_map_or is_true o false) (truth_and db (map conjunct_cond xs) tables rows ∙ ap (option_map and_of) (all_have_truth xs)))))
+      ∙ sym (ap (has_truth is_true) (truth_and db (map conjunct_cond xs) tables rows ∙ ap (map_ok and_of) (all_have_truth xs)))))
 
   pub agrees : (xs : List Conjunct) → AllByRecursion (λ (x : Conjunct). is_one_range x.op ≡ true) xs →
       holds db (is_true_formula one_variable (where_cond xs)) (place ∷ []) ≡ is_true_at db (where_cond xs) tables rows
   agrees [] ranges = and_agrees [] ranges
-  agrees (x ∷ []) ranges = conjunct_agrees x ranges.0 ∙ sym (ap (λ o. option_map_or is_true o false) (truth_of_conjunct x))
+  agrees (x ∷ []) ranges = conjunct_agrees x ranges.0 ∙ sym (ap (has_truth is_true) (truth_of_conjunct x))
   agrees (x ∷ next ∷ xs) ranges = and_agrees (x ∷ next ∷ xs) ranges

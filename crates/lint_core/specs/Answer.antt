@@ -1,34 +1,34 @@
--- When the answer to a question is right.
+-- When the answer to E1, the one question that is judged so far, is right.
 use Rattle.std.specs.Prelude.{ℕ, true, ◌≡◌, List, [], ◌∷◌}
 use Rattle.lint_core.specs.declared.certificate.Cert.{Cert}
 use Rattle.lint_core.specs.declared.database.Value.TheVariants.{Null}
 use Rattle.lint_core.specs.declared.database.Counter.{Counter}
 use Rattle.lint_core.specs.declared.query.Query.{Query}
-use Rattle.lint_core.specs.declared.query.Question.{Question}
+use Rattle.lint_core.specs.declared.query.Question.TheVariants.{Empty}
 use Rattle.lint_core.specs.declared.run.Answer.{Answer}
 use Rattle.lint_core.specs.declared.run.Answer.TheVariants.{Always, NotAlways}
 use Rattle.lint_core.specs.declared.schema.Table.{Table}
 use Rattle.lint_core.specs.Meets.{meets}
 use Rattle.lint_core.specs.Question.{refutes, HoldsAlways}
-use Rattle.lint_core.specs.Translation.{counter_sentence}
+use Rattle.lint_core.specs.Translation.{empty_counter}
 use Rattle.lint_core.specs.Certificate.{accepts}
 
--- the certificate names its query and its question, has no value, and is accepted; the question holds in
+-- the certificate names its query and its question, has no value, and is accepted; the answer is empty in
 -- every database that meets the schema
-pub record IsCertified (schema : List Table) (query : Query) (query_number question_number : ℕ) (question : Question) (cert : Cert) : Type 0 where
+pub record IsCertified (schema : List Table) (query : Query) (query_number question_number : ℕ) (cert : Cert) : Type 0 where
   pub names_query : cert.query ≡ query_number
   pub names_question : cert.question ≡ question_number
   pub no_value : cert.value ≡ Null
-  pub accepted : accepts schema (counter_sentence query question) cert.steps ≡ true
-  pub holds : HoldsAlways schema query question
+  pub accepted : accepts schema (empty_counter query) cert.steps ≡ true
+  pub holds : HoldsAlways schema query Empty Null
 
--- the database meets the schema, and the question fails in it at the points
-pub record IsRefuted (schema : List Table) (query : Query) (question : Question) (counter : Counter) : Type 0 where
+-- the database meets the schema, and the answer is not empty in it, as the points show
+pub record IsRefuted (schema : List Table) (query : Query) (counter : Counter) : Type 0 where
   pub meets_schema : meets schema counter.database ≡ true
-  pub fails : refutes counter.database query question counter.points ≡ true
+  pub fails : refutes counter.database query Empty Null counter.points ≡ true
 
-abbrev pub IsRightAnswer : List Table → Query → ℕ → ℕ → Question → Answer → Type 0
-IsRightAnswer schema query query_number question_number question (Always cert) = IsCertified schema query query_number question_number question cert
-IsRightAnswer schema query query_number question_number question (NotAlways []) = ⊥
-IsRightAnswer schema query query_number question_number question (NotAlways (counter ∷ [])) = IsRefuted schema query question counter
-IsRightAnswer schema query query_number question_number question (NotAlways (counter ∷ other ∷ counters)) = ⊥
+abbrev pub IsRightAnswer : List Table → Query → ℕ → ℕ → Answer → Type 0
+IsRightAnswer schema query query_number question_number (Always cert) = IsCertified schema query query_number question_number cert
+IsRightAnswer schema query query_number question_number (NotAlways []) = ⊥
+IsRightAnswer schema query query_number question_number (NotAlways (counter ∷ [])) = IsRefuted schema query counter
+IsRightAnswer schema query query_number question_number (NotAlways (counter ∷ other ∷ counters)) = ⊥

@@ -2,9 +2,11 @@
 -- A binding has one row place for each FROM entry of each level, the outermost first; the entries' tables,
 -- as many and in the same order, say of which table. A condition has no truth where a scalar subquery that
 -- it contains gives two rows: at the binding itself, or at some inner binding of a subquery in which it
--- stands, also where another part alone would decide.
-use Rattle.std.specs.Prelude.{ℕ, Bool, List, [], ◌∷◌, ◌++◌, map, Option, Some, None, slice_get, unwrap_or, option_and_then, false, if◌then◌else◌}
-use Rattle.std.specs.Option.{option_map, option_map_or}
+-- stands, also where another part alone would decide. In place of a truth there stands then the place of the
+-- first such subquery, with the parts from left to right and the inner bindings in their order.
+use Rattle.std.specs.Prelude.{ℕ, Bool, List, [], ◌∷◌, ◌++◌, map, Option, Some, slice_get, unwrap_or, option_and_then, false, if◌then◌else◌}
+use Rattle.std.specs.Prelude.{Ok, Err}
+use Rattle.lint_base.specs.declared.place.Span.{Span}
 use Rattle.lint_tables.specs.declared.op.Op.TheVariants.{Eq}
 use Rattle.lint_core.specs.declared.condition.Entry.{Entry}
 use Rattle.lint_core.specs.declared.condition.Term.{Term}
@@ -19,27 +21,22 @@ use Rattle.lint_core.specs.declared.database.Database.{Database}
 use Rattle.lint_core.specs.Database.{Place, value_at, row_lists}
 use Rattle.lint_core.specs.Truth.{truth_of, not_of, negated_if, and_of, or_of, is_true, is_false}
 use Rattle.lint_core.specs.Comparison.{compare, plus, is_null}
+use Rattle.lint_core.specs.Evaluation.{Evaluated, and_then, map_ok, all_ok}
 
 -- what stands at a level and an entry
 abbrev pub at_entry : List (List ℕ) → ℕ → ℕ → Option ℕ
 at_entry levels level entry = option_and_then (λ entries. slice_get entries entry) (slice_get levels level)
 
--- all of them, where each is there
-abbrev pub all_present : {A : Type 0} → List (Option A) → Option (List A)
-all_present [] = Some []
-all_present (x ∷ xs) = option_and_then (λ here. option_map (λ later. here ∷ later) (all_present xs)) x
-
 -- an inner binding of a block with the tables of its entries, and the truth of the block's condition there
 pub record Inner : Type 0 where
   pub tables : List (List ℕ)
   pub binding : List (List ℕ)
-  pub truth : Option Truth
+  pub truth : Evaluated Truth
 
 -- the inner bindings at which the block's condition is true, where it has a truth at each
-abbrev pub selected : List Inner → Option (List Inner)
-selected [] = Some []
-selected (inner ∷ others) =
-    option_and_then (λ truth. option_map (λ later. if is_true truth then inner ∷ later else later) (selected others)) inner.truth
+abbrev pub selected : List Inner → Evaluated (List Inner)
+selected [] = Ok []
+selected (inner ∷ others) = and_then (λ truth. map_ok (λ later. if is_true truth then inner ∷ later else later) (selected others)) inner.truth
 
 -- EXISTS: true where some row is selected, else false
 abbrev pub exists_truth : List Inner → Truth
@@ -50,18 +47,24 @@ exists_truth (inner ∷ others) = True
 abbrev pub in_truth : Value → List Value → Truth
 in_truth left items = or_of (map (λ item. compare Eq left item) items)
 
--- the one value that a scalar subquery gives: NULL for no row, and none for two rows
-abbrev pub scalar_value : List Value → Option Value
-scalar_value [] = Some value.Null
-scalar_value (item ∷ []) = Some item
-scalar_value (item ∷ other ∷ items) = None
+-- there is a truth, and it is such a one
+abbrev pub has_truth : (Truth → Bool) → Evaluated Truth → Bool
+has_truth test (Ok truth) = test truth
+has_truth test (Err place) = false
+
+-- the one value that a scalar subquery gives: NULL for no row; for two rows its place
+abbrev pub scalar_value : Span → List Value → Evaluated Value
+scalar_value place [] = Ok value.Null
+scalar_value place (item ∷ []) = Ok item
+scalar_value place (item ∷ other ∷ items) = Err place
 
 -- the meanings of a condition and of a block, by the tables and the binding of the levels outside
 abbrev pub Meaning : Type 0
-Meaning = List (List ℕ) → List (List ℕ) → Option Truth
+Meaning = List (List ℕ) → List (List ℕ) → Evaluated Truth
 
-abbrev pub BlockMeaning : Type 0
-BlockMeaning = List (List ℕ) → List (List ℕ) → List Inner
+pub record BlockMeaning : Type 0 where
+  pub place : Span
+  pub bindings : List (List ℕ) → List (List ℕ) → List Inner
 
 module _ (db : Database) where
   -- the row of an entry
@@ -85,7 +88,7 @@ module _ (db : Database) where
   items_at item inners = map (λ (inner : Inner). term_value inner.tables inner.binding item) inners
 
   -- one more level, with each list of rows of the block's tables
-  abbrev pub inner_bindings : List ℕ → Meaning → BlockMeaning
+  abbrev pub inner_bindings : List ℕ → Meaning → List (List ℕ) → List (List ℕ) → List Inner
   inner_bindings entries cond tables binding =
       map (λ rows. record {
         tables = tables ++ entries ∷ [];
@@ -96,32 +99,35 @@ module _ (db : Database) where
 
   -- one layer of a condition, from the meanings of its parts
   abbrev pub cond_step : Cond-F Meaning BlockMeaning → Meaning
-  cond_step Cond-F.True tables binding = Some True
-  cond_step Cond-F.False tables binding = Some False
-  cond_step (Cond-F.And parts) tables binding = option_map and_of (all_present (map (λ part. part tables binding) parts))
-  cond_step (Cond-F.Or parts) tables binding = option_map or_of (all_present (map (λ part. part tables binding) parts))
-  cond_step (Cond-F.Not part) tables binding = option_map not_of (part tables binding)
+  cond_step Cond-F.True tables binding = Ok True
+  cond_step Cond-F.False tables binding = Ok False
+  cond_step (Cond-F.And parts) tables binding = map_ok and_of (all_ok (map (λ part. part tables binding) parts))
+  cond_step (Cond-F.Or parts) tables binding = map_ok or_of (all_ok (map (λ part. part tables binding) parts))
+  cond_step (Cond-F.Not part) tables binding = map_ok not_of (part tables binding)
   cond_step (Cond-F.Compare op left right span) tables binding =
-      Some (compare op (term_value tables binding left) (term_value tables binding right))
+      Ok (compare op (term_value tables binding left) (term_value tables binding right))
   cond_step (Cond-F.IsNull term negated span) tables binding =
-      Some (negated_if negated (truth_of (is_null (term_value tables binding term))))
-  cond_step (Cond-F.Exists block span) tables binding = option_map exists_truth (selected (block tables binding))
+      Ok (negated_if negated (truth_of (is_null (term_value tables binding term))))
+  cond_step (Cond-F.Exists block span) tables binding = map_ok exists_truth (selected (block.bindings tables binding))
   cond_step (Cond-F.In term block item negated span) tables binding =
-      option_map (λ inners. negated_if negated (in_truth (term_value tables binding term) (items_at item inners)))
-      (selected (block tables binding))
+      map_ok (λ inners. negated_if negated (in_truth (term_value tables binding term) (items_at item inners)))
+      (selected (block.bindings tables binding))
   cond_step (Cond-F.Scalar op left block item span) tables binding =
-      option_and_then (λ inners. option_map (compare op (term_value tables binding left)) (scalar_value (items_at item inners)))
-      (selected (block tables binding))
+      and_then (λ inners. map_ok (compare op (term_value tables binding left)) (scalar_value block.place (items_at item inners)))
+      (selected (block.bindings tables binding))
 
   abbrev pub block_step : Block-F Meaning BlockMeaning → BlockMeaning
-  block_step block = inner_bindings (map (λ (e : Entry). e.table) block.entries) block.cond
+  block_step block = record {
+    place = block.span;
+    bindings = inner_bindings (map (λ (e : Entry). e.table) block.entries) block.cond;
+  }
 
   abbrev pub truth : Cond → Meaning
   truth = fold-Cond Meaning BlockMeaning cond_step block_step
 
   -- the condition has a truth at the binding, which is true; or which is false
   abbrev pub is_true_at : Cond → List (List ℕ) → List (List ℕ) → Bool
-  is_true_at cond tables binding = option_map_or is_true (truth cond tables binding) false
+  is_true_at cond tables binding = has_truth is_true (truth cond tables binding)
 
   abbrev pub is_false_at : Cond → List (List ℕ) → List (List ℕ) → Bool
-  is_false_at cond tables binding = option_map_or is_false (truth cond tables binding) false
+  is_false_at cond tables binding = has_truth is_false (truth cond tables binding)

@@ -7,8 +7,17 @@ pub mod Database
 pub mod Meets
 pub mod Truth
 pub mod Comparison
+pub mod Evaluation
 pub mod Condition
+pub mod Parts
+pub mod Conjuncts
+pub mod Predicates
+pub mod Subqueries
+pub mod Naming
+pub mod Asked
+pub mod Points
 pub mod Question
+pub mod QueryAnswer
 pub mod PlainWord
 pub mod FirstForm
 pub mod Formula

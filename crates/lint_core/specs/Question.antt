@@ -1,45 +1,163 @@
--- The questions of a query, and when they hold in a database. E1, "the answer is empty", is refuted by
--- one binding of the FROM entries at which WHERE is true (the answer of a query has a row for each such
--- binding: ISO/IEC 9075:1992, 7.6 and 7.9).
-use Rattle.std.specs.Prelude.{ℕ, Bool, true, false, ◌&&◌, ◌≡◌, List, [], ◌∷◌, length, map, nat_lt}
+-- When points refute a question of a query. They have the question's form and name existing rows; and then the
+-- clause of the question says what has to be true there. A clause is decided only where each condition that it
+-- names has a truth at each binding that it names: else there stands in its place that of the first scalar
+-- subquery that gives two rows.
+use Rattle.std.specs.Prelude.{ℕ, Bool, true, false, ◌&&◌, ◌||◌, ◌≡◌, not, nat_lt, List, [], ◌∷◌, length, map, Option, slice_get, unwrap_or, if◌then◌else◌, remove}
+use Rattle.std.specs.List.{list_all, list_any}
+use Rattle.std.specs.Option.{option_map_or}
+use Rattle.std.specs.Prelude.{Ok, Err}
+use Rattle.lint_base.specs.declared.place.Span.{Span}
+use Rattle.lint_core.specs.declared.condition.Cond.{Cond}
+use Rattle.lint_core.specs.declared.condition.Cond.TheVariants as cond
 use Rattle.lint_core.specs.declared.condition.Entry.{Entry}
+use Rattle.lint_core.specs.declared.database.Binding.{Binding}
 use Rattle.lint_core.specs.declared.database.Database.{Database}
 use Rattle.lint_core.specs.declared.database.Points.{Points}
-use Rattle.lint_core.specs.declared.database.Points.TheVariants.{One}
+use Rattle.lint_core.specs.declared.database.Points.TheVariants.{One, Two, Without}
+use Rattle.lint_core.specs.declared.database.Truth.{Truth}
+use Rattle.lint_core.specs.declared.database.Value.{Value}
+use Rattle.lint_core.specs.declared.database.Value.TheVariants.{Null}
+use Rattle.lint_core.specs.declared.query.Item.{Item}
 use Rattle.lint_core.specs.declared.query.Query.{Query}
 use Rattle.lint_core.specs.declared.query.Question.{Question}
-use Rattle.lint_core.specs.declared.query.Question.TheVariants.{Empty}
+use Rattle.lint_core.specs.declared.query.Question.TheVariants.{OneRow, Empty, NeedlessDistinct, Constant, Duplicate, NeedlessJoin, Implied, Impossible, SameRow, NullInNotIn}
 use Rattle.lint_core.specs.declared.schema.Table.{Table}
-use Rattle.lint_core.specs.Database.{rows_of}
-use Rattle.lint_core.specs.Condition.{is_true_at}
+use Rattle.lint_core.specs.Asked.{main_condition, main_entries, scalars_of, not_ins_of, conjuncts_with, conjuncts_without}
+use Rattle.lint_core.specs.Comparison.{is_null, are_not_distinct}
+use Rattle.lint_core.specs.Condition.{truth, is_true_at, term_value}
+use Rattle.lint_core.specs.Database.{rows_of, below}
+use Rattle.lint_core.specs.Evaluation.{Evaluated, and_then, map_ok, all_ok, all_hold}
+use Rattle.lint_core.specs.Fits.{main_tables, tables_of}
 use Rattle.lint_core.specs.Meets.{meets}
+use Rattle.lint_core.specs.Points.{is_binding, is_same_binding, differ_in_last_level, differ_in_entry, with_row, is_same_row}
+use Rattle.lint_core.specs.Predicates.{with_replaced}
+use Rattle.lint_core.specs.Subqueries.{Subquery}
+use Rattle.lint_core.specs.Truth.{is_true}
 
--- the tables of the main entries, as the one level there is
-abbrev pub query_tables : Query → List (List ℕ)
-query_tables query = map (λ (e : Entry). e.table) query.block.entries ∷ []
+-- each is true
+abbrev pub all_true : List (Evaluated Truth) → Evaluated Bool
+all_true truths = all_hold (map (map_ok is_true) truths)
 
--- one existing row of its table for each entry
-abbrev pub are_rows : Database → List ℕ → List ℕ → Bool
-are_rows db [] [] = true
-are_rows db [] (row ∷ rows) = false
-are_rows db (table ∷ tables) [] = false
-are_rows db (table ∷ tables) (row ∷ rows) = nat_lt row (length (rows_of db table)) && are_rows db tables rows
+-- exactly one of the two is true
+abbrev pub one_is_true : Evaluated Truth → Evaluated Truth → Evaluated Bool
+one_is_true a b = and_then (λ t. map_ok (λ u. (is_true t && not (is_true u)) || (is_true u && not (is_true t))) b) a
 
--- alike for each level
-abbrev pub is_binding : Database → List (List ℕ) → List (List ℕ) → Bool
-is_binding db [] [] = true
-is_binding db [] (rows ∷ levels) = false
-is_binding db (tables ∷ more) [] = false
-is_binding db (tables ∷ more) (rows ∷ levels) = are_rows db tables rows && is_binding db more levels
+-- it is known, and so
+abbrev pub is_known_true : Evaluated Bool → Bool
+is_known_true (Ok fact) = fact
+is_known_true (Err place) = false
+
+module _ (db : Database) (query : Query) where
+  -- ---- the forms
+
+  abbrev pub is_main_binding : Binding → Bool
+  is_main_binding binding = is_binding db (main_tables query) binding.levels
+
+  -- one of the levels of a subquery, its own last
+  abbrev pub is_inner_binding : Binding → Subquery → Bool
+  is_inner_binding binding sub = is_binding db sub.tables binding.levels
+
+  -- the rows of all main entries but one
+  abbrev pub is_binding_without : ℕ → Binding → Bool
+  is_binding_without entry binding = is_binding db (remove (tables_of (main_entries query)) entry ∷ []) binding.levels
+
+  -- the points have the question's form and name existing rows
+  abbrev pub have_form : Question → Points → Bool
+  have_form (OneRow sub) (Two one two) =
+      option_map_or (λ s. is_inner_binding one s && is_inner_binding two s && differ_in_last_level one.levels two.levels) (slice_get (scalars_of query) sub) false
+  have_form Empty (One one) = is_main_binding one
+  have_form NeedlessDistinct (Two one two) = is_main_binding one && is_main_binding two && not (is_same_binding one.levels two.levels)
+  have_form (Constant item) (One one) = is_main_binding one
+  have_form (Duplicate item other) (One one) = is_main_binding one
+  have_form (NeedlessJoin entry) (Without one) = is_binding_without entry one
+  have_form (NeedlessJoin entry) (Two one two) = is_main_binding one && is_main_binding two && differ_in_entry entry one.levels two.levels
+  have_form (Implied predicate) (One one) = is_main_binding one
+  have_form (Impossible predicate) (One one) = is_main_binding one
+  have_form (SameRow entry other) (One one) = is_main_binding one
+  have_form (NullInNotIn sub) (One one) = option_map_or (is_inner_binding one) (slice_get (not_ins_of query) sub) false
+  have_form question points = false
+
+  -- ---- the clauses
+
+  abbrev pub where_truth : Binding → Evaluated Truth
+  where_truth binding = truth db (main_condition query) (main_tables query) binding.levels
+
+  -- the value of an item
+  abbrev pub item_value : Binding → Item → Value
+  item_value binding item = term_value db (main_tables query) binding.levels item.term
+
+  abbrev pub value_of_item : Binding → ℕ → Value
+  value_of_item binding item = option_map_or (item_value binding) (slice_get query.items item) Null
+
+  -- the items' values at the two bindings are not distinct
+  abbrev pub are_same_items : Binding → Binding → Bool
+  are_same_items one two = list_all (λ (item : Item). are_not_distinct (item_value one item) (item_value two item)) query.items
+
+  -- the conditions at the binding of all entries in which this entry has this row
+  abbrev pub are_true_with : ℕ → Binding → ℕ → List Cond → Evaluated Bool
+  are_true_with entry others row conds = all_true (map (λ c. truth db c (main_tables query) (with_row entry row others.levels)) conds)
+
+  -- the table of a main entry
+  abbrev pub table_of : ℕ → ℕ
+  table_of entry = option_map_or (λ (e : Entry). e.table) (slice_get (main_entries query) entry) 0
+
+  -- at no row of the entry are all conjuncts true that name it
+  abbrev pub no_row_fits : ℕ → Binding → Evaluated Bool
+  no_row_fits entry others =
+      map_ok (λ fit. not (list_any (λ fits. fits) fit))
+      (all_ok (map (λ row. are_true_with entry others row (conjuncts_with entry query)) (below (length (rows_of db (table_of entry))))))
+
+  -- the condition of WHERE with a predicate replaced
+  abbrev pub where_replaced : Cond → ℕ → Binding → Evaluated Truth
+  where_replaced by predicate binding = truth db (with_replaced by predicate (main_condition query)) (main_tables query) binding.levels
+
+  -- of a subquery, at a binding of its levels
+  abbrev pub inner_truth : List Subquery → ℕ → Binding → Evaluated Truth
+  inner_truth subs sub binding = option_map_or (λ (s : Subquery). truth db s.cond s.tables binding.levels) (slice_get subs sub) (Ok Truth.False)
+
+  abbrev pub inner_value : List Subquery → ℕ → Binding → Value
+  inner_value subs sub binding = option_map_or (λ (s : Subquery). term_value db s.tables binding.levels s.item) (slice_get subs sub) Null
+
+  -- what refutes the question, at points of its form. The value is that of the constant column
+  abbrev pub clause : Question → Value → Points → Evaluated Bool
+  -- the subquery gives two rows
+  clause (OneRow sub) given (Two one two) = all_true (inner_truth (scalars_of query) sub one ∷ inner_truth (scalars_of query) sub two ∷ [])
+  -- the answer has a row
+  clause Empty given (One one) = all_true (where_truth one ∷ [])
+  -- the answer without DISTINCT has two rows that are not distinct
+  clause NeedlessDistinct given (Two one two) = map_ok (λ both. both && are_same_items one two) (all_true (where_truth one ∷ where_truth two ∷ []))
+  -- the item has another value
+  clause (Constant item) given (One one) = map_ok (λ here. here && not (are_not_distinct (value_of_item one item) given)) (all_true (where_truth one ∷ []))
+  -- the two items have different values
+  clause (Duplicate item other) given (One one) =
+      map_ok (λ here. here && not (are_not_distinct (value_of_item one item) (value_of_item one other))) (all_true (where_truth one ∷ []))
+  -- no row of the entry fits; or two do
+  clause (NeedlessJoin entry) given (Without one) = all_hold (are_true_with entry one 0 (conjuncts_without entry query) ∷ no_row_fits entry one ∷ [])
+  clause (NeedlessJoin entry) given (Two one two) = all_true (where_truth one ∷ where_truth two ∷ [])
+  -- the predicate is not needed, or not to be met
+  clause (Implied predicate) given (One one) = one_is_true (where_truth one) (where_replaced cond.True predicate one)
+  clause (Impossible predicate) given (One one) = one_is_true (where_truth one) (where_replaced cond.False predicate one)
+  -- the two entries have different rows
+  clause (SameRow entry other) given (One one) = map_ok (λ here. here && not (is_same_row one.levels entry other)) (all_true (where_truth one ∷ []))
+  -- the subquery selects NULL
+  clause (NullInNotIn sub) given (One one) = map_ok (λ here. here && is_null (inner_value (not_ins_of query) sub one)) (all_true (inner_truth (not_ins_of query) sub one ∷ []))
+  clause question given points = Ok false
+
+  -- whether the points refute the question, where that can be decided
+  abbrev pub outcome : Question → Value → Points → Evaluated Bool
+  outcome question given points = if have_form question points then clause question given points else Ok false
+
+  abbrev pub refutes : Question → Value → Points → Bool
+  refutes question given points = is_known_true (outcome question given points)
+
+  -- no points refute the question
+  abbrev pub HoldsIn : Question → Value → Type 0
+  HoldsIn question given = (points : Points) → refutes question given points ≡ false
 
 -- the condition of WHERE and of each ON is true at a binding of the main entries
 abbrev pub where_is_true : Database → Query → List (List ℕ) → Bool
-where_is_true db query binding = is_true_at db query.block.cond (query_tables query) binding
+where_is_true db query binding = is_true_at db (main_condition query) (main_tables query) binding
 
--- the points have the question's form, name existing rows and refute the question
-abbrev pub refutes : Database → Query → Question → Points → Bool
-refutes db query Empty (One binding) = is_binding db (query_tables query) binding.levels && where_is_true db query binding.levels
-
--- the question holds in every database that meets the schema: no points refute it
-abbrev pub HoldsAlways : List Table → Query → Question → Type 0
-HoldsAlways schema query question = (db : Database) → meets schema db ≡ true → (points : Points) → refutes db query question points ≡ false
+-- the question holds in every database that meets the schema; for E3 with this value
+abbrev pub HoldsAlways : List Table → Query → Question → Value → Type 0
+HoldsAlways schema query question given = (db : Database) → meets schema db ≡ true → HoldsIn db query question given

@@ -1,5 +1,5 @@
 -- Conditions as formulas, and questions as sentences. The formula of a condition holds exactly where the
--- condition is true; the sentence of a question holds in a database exactly where the question fails.
+-- condition is true; the counter sentence of E1 holds in a database exactly where the answer is not empty.
 -- So far this is done for queries of the first form alone (FirstForm): a WHERE of comparisons of a number
 -- column with a number, by an operator other than <>, joined by AND. For any other condition the formula
 -- that is given here means nothing, and no law speaks of it.
@@ -17,8 +17,6 @@ use Rattle.lint_core.specs.declared.formula.Atom.TheVariants as atom
 use Rattle.lint_core.specs.declared.formula.Formula.{Formula}
 use Rattle.lint_core.specs.declared.formula.Formula.TheVariants as f
 use Rattle.lint_core.specs.declared.query.Query.{Query}
-use Rattle.lint_core.specs.declared.query.Question.{Question}
-use Rattle.lint_core.specs.declared.query.Question.TheVariants.{Empty}
 use Rattle.lint_core.specs.Condition.{at_entry}
 use Rattle.lint_core.specs.Database.{below}
 
@@ -79,7 +77,7 @@ exist_rows [] body = body
 exist_rows (table ∷ tables) body = f.Exists table (exist_rows tables body)
 
 -- E1 fails where some rows of the entries make WHERE true
-abbrev pub counter_sentence : Query → Question → Formula
-counter_sentence query Empty =
+abbrev pub empty_counter : Query → Formula
+empty_counter query =
     exist_rows (map (λ (e : Entry). e.table) query.block.entries)
     (is_true_formula (below (length query.block.entries) ∷ []) query.block.cond)

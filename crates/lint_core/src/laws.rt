@@ -6,7 +6,8 @@ ghost use Rattle.lint_core.specs.declared.database.Database.{Database};
 ghost use Rattle.lint_core.specs.declared.database.Points.{Points};
 ghost use Rattle.lint_core.specs.declared.formula.Formula.{Formula};
 ghost use Rattle.lint_core.specs.declared.query.Query.{Query};
-ghost use Rattle.lint_core.specs.declared.query.Question.{Question};
+ghost use Rattle.lint_core.specs.declared.query.Question.TheVariants.{Empty};
+ghost use Rattle.lint_core.specs.declared.database.Value.TheVariants.{Null};
 ghost use Rattle.lint_core.specs.declared.schema.Table.{Table};
 ghost use Rattle.lint_core.specs.Certificate.{accepts};
 ghost use Rattle.lint_core.specs.Database.{Place};
@@ -14,7 +15,7 @@ ghost use Rattle.lint_core.specs.FirstForm.{Conjunct, IsFirstForm, is_first_form
 ghost use Rattle.lint_core.specs.Formula.{holds};
 ghost use Rattle.lint_core.specs.Meets.{meets};
 ghost use Rattle.lint_core.specs.Question.{where_is_true, refutes, HoldsAlways};
-ghost use Rattle.lint_core.specs.Translation.{counter_sentence, is_true_formula};
+ghost use Rattle.lint_core.specs.Translation.{empty_counter, is_true_formula};
 
 /// The test of the first form says yes exactly of the queries of the first form.
 pub fn first_form_is_tested()
@@ -34,17 +35,16 @@ pub fn formula_says_truth()
         holds db (is_true_formula ((0 ∷ []) ∷ []) query.block.cond) (place ∷ []) ≡ where_is_true db query ((row ∷ []) ∷ []) }
 {}
 
-/// The sentence of a question about a query of the first form holds exactly where some points refute
-/// the question.
+/// The counter sentence of E1 for a query of the first form holds exactly where some points refute E1.
 pub fn sentence_says_failure()
     ensures fails { (schema : List Table) (query : Query) (table : Table) (conjuncts : List Conjunct)
         → IsFirstForm schema query table conjuncts
-        → (db : Database) (question : Question) (points : Points) → refutes db query question points ≡ true
-        → holds db (counter_sentence query question) [] ≡ true }
+        → (db : Database) (points : Points) → refutes db query Empty Null points ≡ true
+        → holds db (empty_counter query) [] ≡ true }
     ensures only { (schema : List Table) (query : Query) (table : Table) (conjuncts : List Conjunct)
         → IsFirstForm schema query table conjuncts
-        → (db : Database) (question : Question) → holds db (counter_sentence query question) [] ≡ true
-        → (points : Points) × (refutes db query question points ≡ true) }
+        → (db : Database) → holds db (empty_counter query) [] ≡ true
+        → (points : Points) × (refutes db query Empty Null points ≡ true) }
 {}
 
 /// Accepted steps refute their sentence: it holds in no database that meets the schema.
@@ -54,12 +54,12 @@ pub fn accepted_steps_refute()
         → (db : Database) → meets schema db ≡ true → holds db sentence [] ≡ false }
 {}
 
-/// A question about a query of the first form, whose sentence is refuted by accepted steps, holds in
-/// every database that meets the schema.
+/// E1 of a query of the first form, whose counter sentence is refuted by accepted steps, holds in every
+/// database that meets the schema.
 pub fn certified_question_holds()
     ensures { (schema : List Table) (query : Query) (table : Table) (conjuncts : List Conjunct)
         → IsFirstForm schema query table conjuncts
-        → (question : Question) (steps : List Step)
-        → accepts schema (counter_sentence query question) steps ≡ true
-        → HoldsAlways schema query question }
+        → (steps : List Step)
+        → accepts schema (empty_counter query) steps ≡ true
+        → HoldsAlways schema query Empty Null }
 {}
