@@ -5,6 +5,7 @@ pub mod Fits
 pub mod Domain
 pub mod Database
 pub mod Meets
+pub mod DatabaseFits
 pub mod Truth
 pub mod Comparison
 pub mod Evaluation
