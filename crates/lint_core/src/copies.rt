@@ -229,16 +229,24 @@ fn copy_rows(alloc: Global, rows: &[Row]) -> Result<Items<Row>, NoMemory>
     Ok(copies)
 }
 
+fn copy_tables(alloc: Global, tables: &[Items<Row>]) -> Result<Items<Items<Row>>, NoMemory>
+    ensures { IfOk result (λ copies. copies ≡ tables.now) }
+{
+    let mut copies = Items::new(alloc);
+    for rows in tables {
+        copies.push(copy_rows(alloc, rows.as_slice())?)?;
+    }
+    Ok(copies)
+}
+
 impl Database {
     /// The same database. `NoMemory` where there is no memory for all of it.
     pub fn copy(&self, alloc: Global) -> Result<Database, NoMemory>
         ensures { IfOk result (λ copy. copy ≡ self.now) }
     {
-        let mut tables = Items::new(alloc);
-        for rows in self.tables.as_slice() {
-            tables.push(copy_rows(alloc, rows.as_slice())?)?;
-        }
-        Ok(Database { tables })
+        Ok(Database {
+            tables: copy_tables(alloc, self.tables.as_slice())?,
+        })
     }
 }
 
@@ -252,15 +260,23 @@ fn copy_numbers(alloc: Global, numbers: &[u32]) -> Result<Items<u32>, NoMemory>
     Ok(copies)
 }
 
+fn copy_levels(alloc: Global, levels: &[Items<u32>]) -> Result<Items<Items<u32>>, NoMemory>
+    ensures { IfOk result (λ copies. copies ≡ levels.now) }
+{
+    let mut copies = Items::new(alloc);
+    for level in levels {
+        copies.push(copy_numbers(alloc, level.as_slice())?)?;
+    }
+    Ok(copies)
+}
+
 impl Binding {
     fn copy(&self, alloc: Global) -> Result<Binding, NoMemory>
         ensures { IfOk result (λ copy. copy ≡ self.now) }
     {
-        let mut levels = Items::new(alloc);
-        for rows in self.levels.as_slice() {
-            levels.push(copy_numbers(alloc, rows.as_slice())?)?;
-        }
-        Ok(Binding { levels })
+        Ok(Binding {
+            levels: copy_levels(alloc, self.levels.as_slice())?,
+        })
     }
 }
 

@@ -24,8 +24,8 @@ fn tables_fit(tables: &[Table], rows: &[Items<Row>]) -> bool
     if tables.len() != rows.len() {
         return false;
     }
-    for i in 0..tables.len() {
-        if !rows_fit(&tables[i], rows[i].as_slice()) {
+    for (table, rows) in tables.iter().zip(rows) {
+        if !rows_fit(table, rows.as_slice()) {
             return false;
         }
     }
