@@ -3,6 +3,7 @@ mod Ring
 mod Inside
 mod Named
 mod NamedEntries
+mod Counting
 mod Holds
 mod Realized
 pub mod Conditions

@@ -15,6 +15,7 @@ pub mod Conjuncts
 pub mod Predicates
 pub mod Subqueries
 pub mod Naming
+pub mod Counts
 pub mod Asked
 pub mod Points
 pub mod Question

@@ -15,9 +15,11 @@
 //! `worked_truths` and `worked_constraints` show the meaning by small examples (`Examples`).
 #![tactic(auto)]
 
+mod asked;
 mod certificate;
 mod condition;
 mod copies;
+mod counts;
 mod database;
 mod database_fits;
 mod first_form;
