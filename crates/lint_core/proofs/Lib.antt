@@ -7,6 +7,8 @@ mod Counting
 mod Holds
 mod Realized
 pub mod Conditions
+pub mod Described
+pub mod Parted
 mod Edges
 mod Steps
 mod Comparisons
