@@ -4,6 +4,7 @@ mod Inside
 mod Named
 mod NamedEntries
 mod Counting
+mod Alone
 mod Holds
 mod Realized
 pub mod Conditions

@@ -17,6 +17,7 @@ pub mod Subqueries
 pub mod Naming
 pub mod Counts
 pub mod Asked
+pub mod ScalarWithout
 pub mod Points
 pub mod Question
 pub mod QueryAnswer

@@ -1,12 +1,12 @@
 //! Which questions are asked of a query.
 ghost use Rattle.std.specs.Prelude.{◌≡◌, ◌&&◌, false, [], nat_lt, not, length, slice_get};
-ghost use Rattle.std.specs.List.{list_any, filter};
+ghost use Rattle.std.specs.List.{list_any};
 ghost use Rattle.std.specs.Option.{option_map_or};
-ghost use Rattle.lint_core.specs.Asked.{scalars_of, not_ins_of, main_entries, main_condition, conjuncts_without, is_written_column, is_selected, test_two, are_comparable, are_of_one_table, is_asked};
+ghost use Rattle.lint_core.specs.Asked.{scalars_of, not_ins_of, main_entries, main_condition, is_written_column, is_selected, test_two, are_comparable, are_of_one_table, is_asked};
 ghost use Rattle.lint_core.specs.declared.query.Question.TheVariants.{NeedlessJoin};
-ghost use Rattle.lint_core.specs.Conjuncts.{conjuncts};
 ghost use Rattle.lint_core.specs.Naming.{term_names, names, has_scalar};
 ghost use Rattle.lint_core.specs.Predicates.{predicates};
+ghost use Rattle.lint_core.specs.ScalarWithout.{has_scalar_without};
 
 use crate::condition::{Cond, Entry, Term};
 use crate::query::{Item, Query, Question};
@@ -95,21 +95,27 @@ fn some_key_names(keys: &[Term], entry: u32) -> bool
 }
 
 impl Cond {
+    fn has_scalar_and_not(&self, entry: u32) -> bool
+        ensures { result ≡ not (names entry self.now) && has_scalar self.now }
+    {
+        !self.names(entry) && self.has_scalar()
+    }
+
     /// Whether some conjunct that does not name the entry has a scalar subquery.
     #[cycle(scalar_without)]
     fn has_scalar_without(&self, entry: u32) -> bool
-        ensures { result ≡ list_any has_scalar (filter (λ c. not (names entry c)) (conjuncts self.now)) }
+        ensures { result ≡ has_scalar_without entry self.now }
     {
         match self {
             Cond::And(parts) => some_has_scalar_without(parts.as_slice(), entry),
-            _ => !self.names(entry) && self.has_scalar(),
+            _ => self.has_scalar_and_not(entry),
         }
     }
 }
 
 #[cycle(scalar_without)]
 fn some_has_scalar_without(conds: &[Cond], entry: u32) -> bool
-    ensures { result ≡ list_any (λ cond. list_any has_scalar (filter (λ c. not (names entry c)) (conjuncts cond))) conds.now }
+    ensures { result ≡ list_any (has_scalar_without entry) conds.now }
 {
     for cond in conds {
         if cond.has_scalar_without(entry) {
