@@ -5,6 +5,8 @@ mod Named
 mod NamedEntries
 mod Counting
 mod Alone
+mod Members
+mod Candidates
 mod Holds
 mod Realized
 pub mod Conditions

@@ -129,7 +129,8 @@ impl Query {
     fn is_selected(&self, entry: u32) -> bool
         ensures { result ≡ is_selected self.now entry }
     {
-        some_item_names(self.items.as_slice(), entry) || some_key_names(self.order.as_slice(), entry)
+        some_item_names(self.items.as_slice(), entry)
+            || some_key_names(self.order.as_slice(), entry)
     }
 
     fn has_entry_beside_others(&self, entry: u32) -> bool

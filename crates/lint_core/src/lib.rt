@@ -37,8 +37,8 @@ pub use condition::{Block, Cond, Entry, Term};
 pub use database::{Binding, Counter, Database, Points, Row, Truth, Value};
 pub use formula::{Atom, Formula, Side};
 pub use laws::{
-    accepted_steps_refute, certified_question_holds, first_form_is_tested, formula_says_truth,
-    sentence_says_failure,
+    accepted_steps_refute, asked_questions_are_listed, certified_question_holds,
+    first_form_is_tested, formula_says_truth, sentence_says_failure,
 };
 pub use query::{Item, Query, Question};
 pub use run::{Answer, QueryResult, QueryRun, Run};
