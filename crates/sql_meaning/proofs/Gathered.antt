@@ -1,0 +1,122 @@
+-- What is gathered row by row is what the subquery selects.
+use Rattle.std.proofs.Common.{◌≡◌, ◌<◌, ◌∙◌, add-one, append_assoc, append_nil, arith, refl, ap, sym, ℕ, zero, suc, List, [], ◌∷◌, ◌++◌, length, map, drop}
+use Rattle.std.proofs.lemmas.List.{map-append}
+use Rattle.std.specs.List.{flat_map}
+use Rattle.std.specs.Prelude.{Ok, Err, if◌then◌else◌}
+use Rattle.lint_core.specs.Condition.{Inner, Meaning, inner_bindings, items_at, selected, term_value}
+use Rattle.lint_core.specs.Database.{below, row_lists, rows_of}
+use Rattle.lint_core.specs.Evaluation.{Evaluated, map_ok}
+use Rattle.lint_core.specs.Truth.{is_true}
+use Rattle.lint_core.specs.declared.condition.Term.{Term}
+use Rattle.lint_core.specs.declared.database.Database.{Database}
+use Rattle.lint_core.specs.declared.database.Truth.TheVariants.{False, Unknown, True}
+use Rattle.lint_core.specs.declared.database.Truth.{Truth}
+use Rattle.lint_core.specs.declared.database.Value.{Value}
+use Rattle.sql_meaning.proofs.Truths.{no_memory}
+use Rattle.sql_meaning.specs.Gathered.{joined, gathered, gathered_at, gathered_over}
+use Rattle.sql_meaning.specs.Stops.{Gives}
+use Rattle.sql_meaning.specs.declared.stop.TruthStop.TheVariants.{TwoRows, NoMemory}
+use Rattle.sql_meaning.specs.declared.stop.TruthStop.{TruthStop}
+
+pub joined-nothing : {A : Type 0} (x : Evaluated (List A)) → joined x (Ok []) ≡ x
+joined-nothing (Ok xs) = ap Ok (append_nil xs)
+joined-nothing (Err place) = refl
+
+pub nothing-joined : {A : Type 0} (x : Evaluated (List A)) → joined (Ok []) x ≡ x
+nothing-joined (Ok xs) = refl
+nothing-joined (Err place) = refl
+
+joined-assoc : {A : Type 0} (x y z : Evaluated (List A)) → joined x (joined y z) ≡ joined (joined x y) z
+joined-assoc (Ok xs) (Ok ys) (Ok zs) = ap Ok (sym (append_assoc xs ys zs))
+joined-assoc (Ok xs) (Ok ys) (Err place) = refl
+joined-assoc (Ok xs) (Err place) z = refl
+joined-assoc (Err place) y z = refl
+
+-- after one more part, the rest is joined to what there is
+pub joined_step : {A : Type 0} (xs zs : List A) (y z : Evaluated (List A)) → Gives (joined (Ok xs) y) (Ok zs) → joined (Ok xs) (joined y z) ≡ joined (Ok zs) z
+joined_step xs zs (Ok ys) z gives = joined-assoc (Ok xs) (Ok ys) z ∙ ap (λ ws. joined (Ok ws) z) (sym gives)
+joined_step xs zs (Err place) z gives = absurd gives
+
+pub joined_stops : {A : Type 0} (xs : List A) (y z : Evaluated (List A)) (stop : TruthStop) → Gives (joined (Ok xs) y) (Err stop) → Gives (joined (Ok xs) (joined y z)) (Err stop)
+joined_stops xs (Ok ys) z (TwoRows span) gives = absurd gives
+joined_stops xs (Ok ys) z NoMemory gives = no_memory (joined (Ok xs) (joined (Ok ys) z))
+joined_stops xs (Err place) z (TwoRows span) gives = gives
+joined_stops xs (Err place) z NoMemory gives = tt
+
+module _ (db : Database) (item : Term) where
+  abbrev items : List Inner → Evaluated (List Value)
+  items inners = map_ok (items_at db item) (selected inners)
+
+  abbrev one : Inner → Evaluated (List Value)
+  one inner = map_ok (λ truth. if is_true truth then term_value db inner.tables inner.binding item ∷ [] else []) inner.truth
+
+  items_first : (inner : Inner) (others : Evaluated (List Inner)) → (t : Truth) → map_ok (items_at db item) (map_ok (λ later. if is_true t then inner ∷ later else later) others) ≡ joined (map_ok (λ truth. if is_true truth then term_value db inner.tables inner.binding item ∷ [] else []) (Ok t)) (map_ok (items_at db item) others)
+  items_first inner (Ok later) False = refl
+  items_first inner (Ok later) Unknown = refl
+  items_first inner (Ok later) True = refl
+  items_first inner (Err place) False = refl
+  items_first inner (Err place) Unknown = refl
+  items_first inner (Err place) True = refl
+
+  items-cons : (tables binding : List (List ℕ)) (truth : Evaluated Truth) (others : List Inner) →
+      items (record { tables = tables; binding = binding; truth = truth } ∷ others) ≡ joined (one (record { tables = tables; binding = binding; truth = truth })) (items others)
+  items-cons tables binding (Ok t) others = items_first (record { tables = tables; binding = binding; truth = Ok t }) (selected others) t
+  items-cons tables binding (Err place) others = refl
+
+  items-append : (xs ys : List Inner) → items (xs ++ ys) ≡ joined (items xs) (items ys)
+  items-append [] ys = sym (nothing-joined (items ys))
+  items-append (x ∷ xs) ys =
+      items-cons x.tables x.binding x.truth (xs ++ ys)
+      ∙ (ap (joined (one x)) (items-append xs ys)
+      ∙ (joined-assoc (one x) (items xs) (items ys)
+      ∙ ap (λ first. joined first (items ys)) (sym (items-cons x.tables x.binding x.truth xs))))
+
+  module _ (tables binding : List (List ℕ)) (cond : Meaning) where
+    abbrev inner : List ℕ → Inner
+    inner rows = record { tables = tables; binding = binding ++ rows ∷ []; truth = cond tables (binding ++ rows ∷ []) }
+
+    -- of the lists that begin with these row places
+    abbrev from : List ℕ → List (List ℕ) → Evaluated (List Value)
+    from rows lists = items (map inner (map (λ more. rows ++ more) lists))
+
+    from-one : (rows : List ℕ) → from rows ([] ∷ []) ≡ gathered_at db item tables binding cond rows
+    from-one rows = rw (append_nil rows) (items-cons tables (binding ++ rows ∷ []) (cond tables (binding ++ rows ∷ [])) [] ∙ joined-nothing (gathered_at db item tables binding cond rows))
+
+    from-append : (rows : List ℕ) (xs ys : List (List ℕ)) → from rows (xs ++ ys) ≡ joined (from rows xs) (from rows ys)
+    from-append rows xs ys =
+        ap (λ lists. items (map inner lists)) (map-append (λ more. rows ++ more) xs ys)
+        ∙ (ap items (map-append inner (map (λ more. rows ++ more) xs) (map (λ more. rows ++ more) ys))
+        ∙ items-append (map inner (map (λ more. rows ++ more) xs)) (map inner (map (λ more. rows ++ more) ys)))
+
+    longer : (rows : List ℕ) (row : ℕ) (lists : List (List ℕ)) → map (λ more. rows ++ more) (map (λ more. row ∷ more) lists) ≡ map (λ more. (rows ++ row ∷ []) ++ more) lists
+    longer rows row [] = refl
+    longer rows row (more ∷ lists) = rw (longer rows row lists) (ap (λ first. first ∷ map (λ more. (rows ++ row ∷ []) ++ more) lists) (sym (append_assoc rows (row ∷ []) more)))
+
+    from-over : (rows : List ℕ) (others : List ℕ) (numbers : List ℕ) →
+        ((row : ℕ) → from (rows ++ row ∷ []) (row_lists db others) ≡ gathered db item tables binding cond (rows ++ row ∷ []) others) →
+        from rows (flat_map (λ row. map (λ more. row ∷ more) (row_lists db others)) numbers) ≡ gathered_over (λ row. gathered db item tables binding cond (rows ++ row ∷ []) others) numbers
+    from-over rows others [] each = refl
+    from-over rows others (row ∷ numbers) each =
+        from-append rows (map (λ more. row ∷ more) (row_lists db others)) (flat_map (λ row. map (λ more. row ∷ more) (row_lists db others)) numbers)
+        ∙ (ap (λ first. joined first (from rows (flat_map (λ row. map (λ more. row ∷ more) (row_lists db others)) numbers))) (ap (λ lists. items (map inner lists)) (longer rows row (row_lists db others)) ∙ each row)
+        ∙ ap (joined (gathered db item tables binding cond (rows ++ row ∷ []) others)) (from-over rows others numbers each))
+
+    from-is : (rows rest : List ℕ) → from rows (row_lists db rest) ≡ gathered db item tables binding cond rows rest
+    from-is rows [] = from-one rows
+    from-is rows (table ∷ others) = from-over rows others (below (length (rows_of db table))) (λ row. from-is (rows ++ row ∷ []) others)
+
+  same_lists : (lists : List (List ℕ)) → map (λ more. [] ++ more) lists ≡ lists
+  same_lists [] = refl
+  same_lists (rows ∷ lists) = ap (λ later. rows ∷ later) (same_lists lists)
+
+  -- all that the subquery selects
+  pub gathered_is : (entries : List ℕ) (cond : Meaning) (tables binding : List (List ℕ)) →
+      map_ok (items_at db item) (selected (inner_bindings db entries cond tables binding)) ≡ gathered db item (tables ++ entries ∷ []) binding cond [] entries
+  gathered_is entries cond tables binding =
+      ap (λ lists. items (map (inner (tables ++ entries ∷ []) binding cond) lists)) (sym (same_lists (row_lists db entries)))
+      ∙ from-is (tables ++ entries ∷ []) binding cond [] entries
+
+drop_front : {A : Type 0} (xs ys : List A) (k : ℕ) → k < length xs → drop k (xs ++ ys) ≡ drop k xs ++ ys
+drop_front [] ys k low = absurd (omega arith)
+drop_front (x ∷ xs) ys zero low = refl
+drop_front (x ∷ xs) ys (suc k) low = drop_front xs ys k (omega arith)
