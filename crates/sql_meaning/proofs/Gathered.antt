@@ -1,12 +1,15 @@
 -- What is gathered row by row is what the subquery selects.
-use Rattle.std.proofs.Common.{◌≡◌, ◌<◌, ◌∙◌, add-one, append_assoc, append_nil, arith, refl, ap, sym, ℕ, zero, suc, List, [], ◌∷◌, ◌++◌, length, map, drop}
-use Rattle.std.proofs.lemmas.List.{map-append}
+use Rattle.std.proofs.Common.{◌≡◌, ◌<◌, ◌+◌, ◌∙◌, inl, inr, subst, add-one, append_assoc, append-nil, arith, refl, ap, sym, ℕ, zero, suc, List, [], ◌∷◌, ◌++◌, length, map, drop}
+use Rattle.std.proofs.lemmas.Bool.{cases_lt}
+use Rattle.std.proofs.lemmas.List.{length-append, map-append}
 use Rattle.std.specs.List.{flat_map}
-use Rattle.std.specs.Prelude.{Ok, Err, if◌then◌else◌}
+use Rattle.std.specs.Prelude.{Result, Ok, Err, if◌then◌else◌}
 use Rattle.lint_core.specs.Condition.{Inner, Meaning, inner_bindings, items_at, selected, term_value}
 use Rattle.lint_core.specs.Database.{below, row_lists, rows_of}
 use Rattle.lint_core.specs.Evaluation.{Evaluated, map_ok}
 use Rattle.lint_core.specs.Truth.{is_true}
+use Rattle.lint_core.specs.Fits.{tables_of}
+use Rattle.lint_core.specs.declared.condition.Entry.{Entry}
 use Rattle.lint_core.specs.declared.condition.Term.{Term}
 use Rattle.lint_core.specs.declared.database.Database.{Database}
 use Rattle.lint_core.specs.declared.database.Truth.TheVariants.{False, Unknown, True}
@@ -19,7 +22,7 @@ use Rattle.sql_meaning.specs.declared.stop.TruthStop.TheVariants.{TwoRows, NoMem
 use Rattle.sql_meaning.specs.declared.stop.TruthStop.{TruthStop}
 
 pub joined-nothing : {A : Type 0} (x : Evaluated (List A)) → joined x (Ok []) ≡ x
-joined-nothing (Ok xs) = ap Ok (append_nil xs)
+joined-nothing (Ok xs) = ap Ok (append-nil xs)
 joined-nothing (Err place) = refl
 
 pub nothing-joined : {A : Type 0} (x : Evaluated (List A)) → joined (Ok []) x ≡ x
@@ -80,7 +83,7 @@ module _ (db : Database) (item : Term) where
     from rows lists = items (map inner (map (λ more. rows ++ more) lists))
 
     from-one : (rows : List ℕ) → from rows ([] ∷ []) ≡ gathered_at db item tables binding cond rows
-    from-one rows = rw (append_nil rows) (items-cons tables (binding ++ rows ∷ []) (cond tables (binding ++ rows ∷ [])) [] ∙ joined-nothing (gathered_at db item tables binding cond rows))
+    from-one rows = rw (append-nil rows) (items-cons tables (binding ++ rows ∷ []) (cond tables (binding ++ rows ∷ [])) [] ∙ joined-nothing (gathered_at db item tables binding cond rows))
 
     from-append : (rows : List ℕ) (xs ys : List (List ℕ)) → from rows (xs ++ ys) ≡ joined (from rows xs) (from rows ys)
     from-append rows xs ys =
@@ -120,3 +123,75 @@ drop_front : {A : Type 0} (xs ys : List A) (k : ℕ) → k < length xs → drop 
 drop_front [] ys k low = absurd (omega arith)
 drop_front (x ∷ xs) ys zero low = refl
 drop_front (x ∷ xs) ys (suc k) low = drop_front xs ys k (omega arith)
+
+drop_next : {A : Type 0} (xs ys : List A) (k : ℕ) → k < length xs → drop (suc k) (xs ++ ys) ≡ drop (suc k) xs ++ ys
+drop_next [] ys k low = absurd (omega arith)
+drop_next (x ∷ xs) ys zero low = refl
+drop_next (x ∷ xs) ys (suc k) low = drop_next xs ys k (omega arith)
+
+drop_behind : {A : Type 0} (xs ys : List A) → drop (length xs) (xs ++ ys) ≡ ys
+drop_behind [] ys = refl
+drop_behind (x ∷ xs) ys = drop_behind xs ys
+
+length_below : (n : ℕ) → length (below n) ≡ n
+length_below zero = refl
+length_below (suc n) = length-append (below n) (n ∷ []) ∙ (ap (λ k. k + 1) (length_below n) ∙ add-one n)
+
+drop_all : {A : Type 0} (xs : List A) → drop (length xs) xs ≡ []
+drop_all [] = refl
+drop_all (x ∷ xs) = drop_all xs
+
+pub below_end : (n : ℕ) → drop n (below n) ≡ []
+below_end n = ap (λ k. drop k (below n)) (sym (length_below n)) ∙ drop_all (below n)
+
+below_after : (n k : ℕ) → k < n → drop k (below n) ≡ k ∷ drop (suc k) (below n)
+below_after zero k low = absurd (omega arith)
+below_after (suc n) k low =
+    elim (cases_lt k n) [
+      | inl less ↦
+          let short : k < length (below n) = subst (λ m. k < m) (sym (length_below n)) less in
+          drop_front (below n) (n ∷ []) k short
+          ∙ (ap (λ numbers. numbers ++ n ∷ []) (below_after n k less)
+          ∙ ap (λ numbers. k ∷ numbers) (sym (drop_next (below n) (n ∷ []) k short)))
+      | inr more ↦
+          let same : k ≡ n = omega arith in
+          let here : drop n (below n ++ n ∷ []) ≡ n ∷ [] = ap (λ m. drop m (below n ++ n ∷ [])) (sym (length_below n)) ∙ drop_behind (below n) (n ∷ []) in
+          subst (λ m. drop m (below n ++ n ∷ []) ≡ m ∷ drop (suc m) (below n ++ n ∷ [])) (sym same) (here ∙ ap (λ numbers. n ∷ numbers) (sym (below_end (suc n))))
+    ]
+
+-- the numbers from k on
+below_from : (n k : ℕ) → k < n → drop k (below n) ≡ k ∷ drop (k + 1) (below n)
+below_from n k low = below_after n k low ∙ ap (λ m. k ∷ drop m (below n)) (sym (add-one k))
+
+-- the loop over the rows of one table: where it ends, after one row, and where it stops
+pub over_end : (at : ℕ → Evaluated (List Value)) (xs : List Value) (n k : ℕ) (whole : Evaluated (List Value)) → k ≡ n →
+    joined (Ok xs) (gathered_over at (drop k (below n))) ≡ whole → whole ≡ Ok xs
+over_end at xs n k whole same so_far =
+    sym so_far ∙ (ap (λ numbers. joined (Ok xs) (gathered_over at numbers)) (ap (λ m. drop m (below n)) same ∙ below_end n) ∙ ap Ok (append-nil xs))
+
+pub over_step : (at : ℕ → Evaluated (List Value)) (xs zs : List Value) (n k : ℕ) (whole : Evaluated (List Value)) → k < n →
+    joined (Ok xs) (gathered_over at (drop k (below n))) ≡ whole → Gives (joined (Ok xs) (at k)) (Ok zs) →
+    joined (Ok zs) (gathered_over at (drop (k + 1) (below n))) ≡ whole
+over_step at xs zs n k whole low so_far gives =
+    sym (joined_step xs zs (at k) (gathered_over at (drop (k + 1) (below n))) gives)
+    ∙ (ap (λ numbers. joined (Ok xs) (gathered_over at numbers)) (sym (below_from n k low)) ∙ so_far)
+
+pub over_stops : (at : ℕ → Evaluated (List Value)) (xs : List Value) (n k : ℕ) (whole : Evaluated (List Value)) (stop : TruthStop) → k < n →
+    joined (Ok xs) (gathered_over at (drop k (below n))) ≡ whole → Gives (joined (Ok xs) (at k)) (Err stop) → Gives whole (Err stop)
+over_stops at xs n k whole stop low so_far gives =
+    subst (λ x. Gives x (Err stop)) (ap (λ numbers. joined (Ok xs) (gathered_over at numbers)) (sym (below_from n k low)) ∙ so_far)
+    (joined_stops xs (at k) (gathered_over at (drop (k + 1) (below n))) stop gives)
+
+pub select_gives : (db : Database) (item : Term) (entries : List ℕ) (cond : Meaning) (tables binding : List (List ℕ)) (result : Result (List Value) TruthStop) →
+    Gives (joined (Ok []) (gathered db item (tables ++ entries ∷ []) binding cond [] entries)) result →
+    Gives (map_ok (items_at db item) (selected (inner_bindings db entries cond tables binding))) result
+select_gives db item entries cond tables binding result gives =
+    subst (λ x. Gives x result)
+    (nothing-joined (gathered db item (tables ++ entries ∷ []) binding cond [] entries) ∙ sym (gathered_is db item entries cond tables binding))
+    gives
+
+-- what the rest of the entries gives, by the rows of the first
+pub by_rows : (db : Database) (item : Term) (tables binding : List (List ℕ)) (cond : Meaning) (rows : List ℕ) (rest : List Entry) (entry : Entry) (others : List Entry) (n : ℕ) →
+    rest ≡ entry ∷ others → n ≡ length (rows_of db entry.table) →
+    gathered db item tables binding cond rows (tables_of rest) ≡ gathered_over (λ row. gathered db item tables binding cond (rows ++ row ∷ []) (tables_of others)) (below n)
+by_rows db item tables binding cond rows rest entry others n is count = rw (is, count) refl

@@ -1,3 +1,5 @@
-mod Standing
-mod Truths
 mod Gathered
+mod Standing
+mod Steps
+mod Truths
+mod Weights

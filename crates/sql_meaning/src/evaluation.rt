@@ -92,8 +92,8 @@ struct Search<'a> {
 impl<'a> Search<'a> {
     /// Adds what is selected at one list of row places.
     #[cycle(evaluation)]
-    fn visit_rows(&self, rows: &[usize], found: &mut Vec<Seen<'a>>) -> Result<(), TruthStop>
-        ensures { Gives (joined (Ok (values_of found.old.items)) (gathered_at self.now.database.now self.now.item.now (tables_of_levels self.now.outer.now ++ tables_of (out-Block self.now.block.now).entries ∷ []) (binding_of_levels self.now.outer.now) (truth self.now.database.now (out-Block self.now.block.now).cond) rows.now)) (answer (λ _. values_of found.new.items) result) }
+    fn visit_rows(&self, rows: &[usize], mut found: Vec<Seen<'a>>) -> Result<Vec<Seen<'a>>, TruthStop>
+        ensures { Gives (joined (Ok (values_of found.entry.items)) (gathered_at self.now.database.now self.now.item.now (tables_of_levels self.now.outer.now ++ tables_of (out-Block self.now.block.now).entries ∷ []) (binding_of_levels self.now.outer.now) (truth self.now.database.now (out-Block self.now.block.now).cond) rows.now)) (answer (λ found. values_of found.items) result) }
     {
         let levels = Levels::Inside {
             entries: self.block.entries.as_slice(),
@@ -103,7 +103,7 @@ impl<'a> Search<'a> {
         if evaluate(self.alloc, self.database, &self.block.cond, &levels)? == Truth::True {
             found.push(term_value(self.database, self.item, &levels))?;
         }
-        Ok(())
+        Ok(found)
     }
 
     /// Adds what is selected at each list of row places that begins with these and has one for each of the
@@ -113,20 +113,20 @@ impl<'a> Search<'a> {
         &self,
         rest: &[Entry],
         rows: &mut Vec<usize>,
-        found: &mut Vec<Seen<'a>>,
-    ) -> Result<(), TruthStop>
-        ensures gives { Gives (joined (Ok (values_of found.old.items)) (gathered self.now.database.now self.now.item.now (tables_of_levels self.now.outer.now ++ tables_of (out-Block self.now.block.now).entries ∷ []) (binding_of_levels self.now.outer.now) (truth self.now.database.now (out-Block self.now.block.now).cond) rows.old.items (tables_of rest.now))) (answer (λ _. values_of found.new.items) result) }
+        mut found: Vec<Seen<'a>>,
+    ) -> Result<Vec<Seen<'a>>, TruthStop>
+        ensures gives { Gives (joined (Ok (values_of found.entry.items)) (gathered self.now.database.now self.now.item.now (tables_of_levels self.now.outer.now ++ tables_of (out-Block self.now.block.now).entries ∷ []) (binding_of_levels self.now.outer.now) (truth self.now.database.now (out-Block self.now.block.now).cond) rows.old.items (tables_of rest.now))) (answer (λ found. values_of found.items) result) }
         ensures rows { OnOk result (rows.new.items ≡ rows.old.items) }
     {
-        let [entry, others @ ..] = rest else {
+        let Some((entry, others)) = rest.split_first() else {
             return self.visit_rows(rows.as_slice(), found);
         };
         for row in 0..row_count(self.database, entry.table) {
             rows.push(row)?;
-            self.visit(others, rows, found)?;
+            found = self.visit(others, rows, found)?;
             rows.pop();
         }
-        Ok(())
+        Ok(found)
     }
 }
 
@@ -158,9 +158,7 @@ fn select<'a>(
         outer: &*outer,
     };
     let mut rows = Vec::new(alloc);
-    let mut found = Vec::new(alloc);
-    search.visit(block.entries.as_slice(), &mut rows, &mut found)?;
-    Ok(found)
+    search.visit(block.entries.as_slice(), &mut rows, Vec::new(alloc))
 }
 
 #[cycle(evaluation)]

@@ -56,6 +56,15 @@ fn table_of(entries: &[Entry], entry: u32) -> Option<u32>
     }
 }
 
+fn row_of(rows: &[usize], entry: u32) -> Option<usize>
+    ensures { result ≡ slice_get rows.now entry }
+{
+    match rows.get(entry as usize) {
+        Some(row) => Some(*row),
+        None => None,
+    }
+}
+
 impl Levels<'_> {
     fn look_up_table(&self, level: u32, entry: u32) -> Result<Option<u32>, usize>
         ensures there { IfOk result (λ found. (level < length (tables_of_levels self.now)) × (found ≡ at_entry (tables_of_levels self.now) level entry)) }
@@ -79,7 +88,7 @@ impl Levels<'_> {
             Levels::Given { rows, .. } => row_in(rows, level, entry),
             Levels::Inside { rows, outer, .. } => match outer.look_up_row(level, entry) {
                 Ok(found) => Ok(found),
-                Err(0) => Ok(rows.get(entry as usize).copied()),
+                Err(0) => Ok(row_of(rows, entry)),
                 Err(further) => Err(further - 1),
             },
         }

@@ -1,6 +1,5 @@
 use Rattle.std.proofs.Common.{◌≡◌, ◌∙◌, ◌<◌, sym, arith, length}
 use Rattle.std.proofs.lemmas.Grind.{common_steps}
-use Rattle.std.specs.Prelude.{slice_get}
 use Rattle.sql_meaning.proofs.Standing.{length_inside, at_outer, at_own, binding_inside}
 use Rattle.sql_meaning.proofs.levels.Levels.+look_up_row.Goals as goal
 use Rattle.sql_meaning.specs.Standing.{binding_of_levels}
@@ -18,9 +17,8 @@ returns-in-Err-eq0-clause-there t c =
     let outer = binding_of_levels c.in-Inside.outer.now in
     let own = c.in-Inside.rows.now in
     let same : c.args.level ≡ length outer = grind (arith, common_steps) in
-    let found : c.copied.result ≡ slice_get own c.args.entry = grind (arith, common_steps) in
     rw (c.in-Inside.is, binding_inside c.in-Inside.entries c.in-Inside.rows c.in-Inside.outer, length_inside)
-    (omega arith, found ∙ sym (at_own outer own c.args.level c.args.entry same))
+    (omega arith, c.row_of.ensures ∙ sym (at_own outer own c.args.level c.args.entry same))
 
 pub returns-in-Err-clause-further : goal.returns-in-Err-clause-further
 returns-in-Err-clause-further t c =
