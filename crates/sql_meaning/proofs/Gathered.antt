@@ -182,16 +182,49 @@ over_stops at xs n k whole stop low so_far gives =
     subst (λ x. Gives x (Err stop)) (ap (λ numbers. joined (Ok xs) (gathered_over at numbers)) (sym (below_from n k low)) ∙ so_far)
     (joined_stops xs (at k) (gathered_over at (drop (k + 1) (below n))) stop gives)
 
-pub select_gives : (db : Database) (item : Term) (entries : List ℕ) (cond : Meaning) (tables binding : List (List ℕ)) (result : Result (List Value) TruthStop) →
-    Gives (joined (Ok []) (gathered db item (tables ++ entries ∷ []) binding cond [] entries)) result →
-    Gives (map_ok (items_at db item) (selected (inner_bindings db entries cond tables binding))) result
-select_gives db item entries cond tables binding result gives =
+pub select_gives : (db : Database) (item : Term) (entries : List Entry) (cond : Meaning) (tables binding : List (List ℕ)) (so_far : List Value) (rows : List ℕ) (rest : List Entry) (result : Result (List Value) TruthStop) →
+    so_far ≡ [] → rows ≡ [] → rest ≡ entries →
+    Gives (joined (Ok so_far) (gathered db item (tables ++ tables_of entries ∷ []) binding cond rows (tables_of rest))) result →
+    Gives (map_ok (items_at db item) (selected (inner_bindings db (tables_of entries) cond tables binding))) result
+select_gives db item entries cond tables binding so_far rows rest result nothing no_rows all gives =
+    let own = tables_of entries in
+    let start : joined (Ok so_far) (gathered db item (tables ++ own ∷ []) binding cond rows (tables_of rest)) ≡ joined (Ok []) (gathered db item (tables ++ own ∷ []) binding cond [] own) = rw (nothing, no_rows, all) refl in
     subst (λ x. Gives x result)
-    (nothing-joined (gathered db item (tables ++ entries ∷ []) binding cond [] entries) ∙ sym (gathered_is db item entries cond tables binding))
+    (start ∙ (nothing-joined (gathered db item (tables ++ own ∷ []) binding cond [] own) ∙ sym (gathered_is db item own cond tables binding)))
     gives
 
 -- what the rest of the entries gives, by the rows of the first
-pub by_rows : (db : Database) (item : Term) (tables binding : List (List ℕ)) (cond : Meaning) (rows : List ℕ) (rest : List Entry) (entry : Entry) (others : List Entry) (n : ℕ) →
+by_rows : (db : Database) (item : Term) (tables binding : List (List ℕ)) (cond : Meaning) (rows : List ℕ) (rest : List Entry) (entry : Entry) (others : List Entry) (n : ℕ) →
     rest ≡ entry ∷ others → n ≡ length (rows_of db entry.table) →
     gathered db item tables binding cond rows (tables_of rest) ≡ gathered_over (λ row. gathered db item tables binding cond (rows ++ row ∷ []) (tables_of others)) (below n)
 by_rows db item tables binding cond rows rest entry others n is count = rw (is, count) refl
+
+module _ (db : Database) (item : Term) (tables binding : List (List ℕ)) (cond : Meaning) (rows : List ℕ) (rest : List Entry) (entry : Entry) (others : List Entry) (n k : ℕ) (initial xs : List Value)
+    (is : rest ≡ entry ∷ others) (count : n ≡ length (rows_of db entry.table)) where
+  -- what each row of the first entry gives
+  abbrev pub at : ℕ → Evaluated (List Value)
+  at row = gathered db item tables binding cond (rows ++ row ∷ []) (tables_of others)
+
+  abbrev pub all_rows : Evaluated (List Value)
+  all_rows = joined (Ok initial) (gathered_over at (below n))
+
+  whole_is : joined (Ok initial) (gathered db item tables binding cond rows (tables_of rest)) ≡ all_rows
+  whole_is = ap (joined (Ok initial)) (by_rows db item tables binding cond rows rest entry others n is count)
+
+  module _ (so_far : joined (Ok xs) (gathered_over at (drop k (below n))) ≡ all_rows) where
+    pub rows_end : k ≡ n → Gives (joined (Ok initial) (gathered db item tables binding cond rows (tables_of rest))) (Ok xs)
+    rows_end same = subst (λ x. Gives x (Ok xs)) (sym (whole_is ∙ over_end at xs n k all_rows same so_far)) refl
+
+    module _ (kept pushed : List ℕ) (low : k < n) (same : kept ≡ rows) (more : pushed ≡ kept ++ k ∷ []) where
+      here : gathered db item tables binding cond pushed (tables_of others) ≡ at k
+      here = ap (λ rows. gathered db item tables binding cond rows (tables_of others)) (more ∙ ap (λ rows. rows ++ k ∷ []) same)
+
+      pub rows_stop : (stop : TruthStop) → Gives (joined (Ok xs) (gathered db item tables binding cond pushed (tables_of others))) (Err stop) →
+          Gives (joined (Ok initial) (gathered db item tables binding cond rows (tables_of rest))) (Err stop)
+      rows_stop stop gives =
+          subst (λ x. Gives x (Err stop)) (sym whole_is)
+          (over_stops at xs n k all_rows stop low so_far (subst (λ x. Gives (joined (Ok xs) x) (Err stop)) here gives))
+
+      pub rows_step : (zs : List Value) → Gives (joined (Ok xs) (gathered db item tables binding cond pushed (tables_of others))) (Ok zs) →
+          joined (Ok zs) (gathered_over at (drop (k + 1) (below n))) ≡ all_rows
+      rows_step zs gives = over_step at xs zs n k all_rows low so_far (subst (λ x. Gives (joined (Ok xs) x) (Ok zs)) here gives)

@@ -1,11 +1,12 @@
-use Rattle.std.proofs.Common.{◌≡◌, ◌∙◌, ap, arith, refl, sym}
+use Rattle.std.proofs.Common.{◌≡◌, ◌∙◌, ◌∷◌, ◌++◌, [], ap, arith, refl, sym}
 use Rattle.std.proofs.lemmas.Grind.{common_steps}
 use Rattle.std.proofs.lemmas.Result.{err_from_is_err_and}
 use Rattle.std.specs.Prelude.{Ok}
 use Rattle.lint_core.proofs.Conditions.{truth_and, truth_or}
 use Rattle.lint_core.specs.Condition.{in_truth, items_at, truth}
 use Rattle.lint_core.specs.Evaluation.{map_ok}
-use Rattle.sql_meaning.proofs.Gathered.{by_rows, select_gives}
+use Rattle.lint_core.specs.Fits.{tables_of}
+use Rattle.sql_meaning.proofs.Gathered.{rows_end, rows_step, rows_stop, select_gives}
 use Rattle.sql_meaning.proofs.Steps.{chosen, exists_is, in_gives, in_stops, scalar_gives, scalar_stops, scalar_value_stops}
 use Rattle.sql_meaning.proofs.evaluation.+evaluation.Goals as goal
 use Rattle.sql_meaning.specs.Seen.{value_of, values_of}
@@ -66,3 +67,44 @@ evaluate-returns-in_ok-value-in-Scalar t c =
     (rw (← c.get-in-Scalar.ensures) c.in_ok-items-in-Scalar.ensures)
     (rw (← c.get-in-Scalar-2.ensures, ← c.as_slice-in-Scalar.ensures.value) c.in_ok-value-in-Scalar.ensures)
     c.term_value-in-Scalar.ensures c.compare-in-Scalar.ensures
+
+pub select-returns : goal.select-returns
+select-returns t c =
+    select_gives c.args.database.now c.args.item.now c.args.block.now.entries (truth c.args.database.now c.args.block.now.cond)
+    (tables_of_levels c.args.outer.now) (binding_of_levels c.args.outer.now) (values_of c.new.result.items) c.new-rows.result.items c.as_slice.result.now _
+    (ap values_of c.new.ensures.items) c.new-rows.ensures.items c.as_slice.ensures c.visit.ensures.gives
+
+pub Search::visit-returns-in_default-clause-gives : goal.Search::visit-returns-in_default-clause-gives
+Search::visit-returns-in_default-clause-gives t c =
+    let is : c.args.rest.now ≡ [] = grind (arith, common_steps) in
+    rw (is) (rw (← c.as_slice.ensures.value) c.visit_rows.ensures)
+
+pub Search::visit-returns-clause-gives : goal.Search::visit-returns-clause-gives
+Search::visit-returns-clause-gives t c =
+    let is : c.args.rest.now ≡ c.in-Some.entry.now ∷ c.in-Some.others.now = grind (arith, common_steps) in
+    let same : c.loop-row.row ≡ c.row_count-row-end.result = omega arith in
+    rows_end c.args.self.now.database.now c.args.self.now.item.now (tables_of_levels c.args.self.now.outer.now ++ tables_of c.args.self.now.block.now.entries ∷ []) (binding_of_levels c.args.self.now.outer.now)
+    (truth c.args.self.now.database.now c.args.self.now.block.now.cond) c.args.rows.now.items c.args.rest.now c.in-Some.entry.now c.in-Some.others.now c.row_count-row-end.result c.loop-row.row
+    (values_of c.args.found.items) (values_of c.loop-row.found.items) is c.row_count-row-end.ensures c.loop-row.invariant.found same
+
+pub Search::visit-returns-in_err-found-clause-gives : goal.Search::visit-returns-in_err-found-clause-gives
+Search::visit-returns-in_err-found-clause-gives t c =
+    let p = err_from_is_err_and c.from_residual-in_err-found.result c.from_residual-in_err-found.ensures.1 in
+    let is : c.args.rest.now ≡ c.in-Some.entry.now ∷ c.in-Some.others.now = grind (arith, common_steps) in
+    rw (p.1, p.2)
+    (rows_stop c.args.self.now.database.now c.args.self.now.item.now (tables_of_levels c.args.self.now.outer.now ++ tables_of c.args.self.now.block.now.entries ∷ []) (binding_of_levels c.args.self.now.outer.now)
+    (truth c.args.self.now.database.now c.args.self.now.block.now.cond) c.args.rows.now.items c.args.rest.now c.in-Some.entry.now c.in-Some.others.now c.row_count-row-end.result c.loop-row.row
+    (values_of c.args.found.items) (values_of c.loop-row.found.items) is c.row_count-row-end.ensures c.loop-row.invariant.found
+    c.loop-row.rows.items c.push.new.self.items c.loop-row-test.true c.loop-row.invariant.rows c.in_ok-push.ensures.items c.in_err-found.field-0.0 c.in_err-found.ensures.gives)
+
+pub Search::visit-loop-row-preserved : goal.Search::visit-loop-row-preserved
+Search::visit-loop-row-preserved t c =
+    let is : c.args.rest.now ≡ c.in-Some.entry.now ∷ c.in-Some.others.now = grind (arith, common_steps) in
+    record {
+      rows = grind (arith, common_steps);
+      found =
+          rows_step c.args.self.now.database.now c.args.self.now.item.now (tables_of_levels c.args.self.now.outer.now ++ tables_of c.args.self.now.block.now.entries ∷ []) (binding_of_levels c.args.self.now.outer.now)
+          (truth c.args.self.now.database.now c.args.self.now.block.now.cond) c.args.rows.now.items c.args.rest.now c.in-Some.entry.now c.in-Some.others.now c.row_count-row-end.result c.loop-row.row
+          (values_of c.args.found.items) (values_of c.loop-row.found.items) is c.row_count-row-end.ensures c.loop-row.invariant.found
+          c.loop-row.rows.items c.push.new.self.items c.loop-row-test.true c.loop-row.invariant.rows c.in_ok-push.ensures.items (values_of c.in_ok-found.found.items) c.in_ok-found.ensures.gives;
+    }
