@@ -92,7 +92,11 @@ struct Search<'a> {
 impl<'a> Search<'a> {
     /// Adds what is selected at one list of row places.
     #[cycle(evaluation)]
-    fn visit_rows(&self, rows: &[usize], mut found: Vec<Seen<'a>>) -> Result<Vec<Seen<'a>>, TruthStop>
+    fn visit_rows(
+        &self,
+        rows: &[usize],
+        mut found: Vec<Seen<'a>>,
+    ) -> Result<Vec<Seen<'a>>, TruthStop>
         ensures { Gives (joined (Ok (values_of found.entry.items)) (gathered_at self.now.database.now self.now.item.now (tables_of_levels self.now.outer.now ++ tables_of (out-Block self.now.block.now).entries ∷ []) (binding_of_levels self.now.outer.now) (truth self.now.database.now (out-Block self.now.block.now).cond) rows.now)) (answer (λ found. values_of found.items) result) }
     {
         let levels = Levels::Inside {
@@ -285,4 +289,188 @@ pub fn truth(
         rows: at.levels.as_slice(),
     };
     evaluate(alloc, database, cond, &levels)
+}
+
+#[cfg(test)]
+mod tests {
+    use super::*;
+    use lint_base::{NoMemory, Str};
+    use lint_core::{Row, Value};
+    use sqlite_items::Boxed;
+    use std::test::Fail;
+
+    const PLACE: Span = Span { from: 0, to: 1 };
+
+    const SUBQUERY: Span = Span { from: 36, to: 83 };
+
+    fn number(cell: Option<i64>) -> Value {
+        match cell {
+            Some(number) => Value::Int(number),
+            None => Value::Null,
+        }
+    }
+
+    fn text(alloc: Global, cell: Option<&str>) -> Result<Value, NoMemory> {
+        match cell {
+            Some(text) => Ok(Value::Text(Str::from_str(alloc, text)?)),
+            None => Ok(Value::Null),
+        }
+    }
+
+    /// The row (10, 'X', NULL) of `dept (deptno, dname, loc)`.
+    fn department(alloc: Global) -> Result<Row, NoMemory> {
+        let mut values = Items::new(alloc);
+        values.push(number(Some(10)))?;
+        values.push(text(alloc, Some("X"))?)?;
+        values.push(Value::Null)?;
+        Ok(Row { values })
+    }
+
+    /// A row of `emp (empno, ename, job, mgr, sal, deptno)`, with mgr NULL and deptno 10.
+    fn employee(
+        alloc: Global,
+        empno: i64,
+        ename: &str,
+        job: Option<&str>,
+        sal: Option<i64>,
+    ) -> Result<Row, NoMemory> {
+        let mut values = Items::new(alloc);
+        values.push(number(Some(empno)))?;
+        values.push(text(alloc, Some(ename))?)?;
+        values.push(text(alloc, job)?)?;
+        values.push(Value::Null)?;
+        values.push(number(sal))?;
+        values.push(number(Some(10)))?;
+        Ok(Row { values })
+    }
+
+    /// dept, and emp with the first of three rows, or with all.
+    fn database(alloc: Global, all: bool) -> Result<Database, NoMemory> {
+        let mut dept = Items::new(alloc);
+        dept.push(department(alloc)?)?;
+        let mut emp = Items::new(alloc);
+        emp.push(employee(alloc, 1, "A", None, None)?)?;
+        if all {
+            emp.push(employee(alloc, 2, "B", Some("PRESIDENT"), Some(5))?)?;
+            emp.push(employee(alloc, 3, "C", Some("PRESIDENT"), Some(6))?)?;
+        }
+        let mut tables = Items::new(alloc);
+        tables.push(dept)?;
+        tables.push(emp)?;
+        Ok(Database { tables })
+    }
+
+    fn cell(level: u32, column: u32) -> Term {
+        Term::Cell {
+            level,
+            entry: 0,
+            column,
+            plus: 0,
+        }
+    }
+
+    /// A subquery over emp.
+    fn over_employees(alloc: Global, cond: Cond) -> Result<Boxed<Block>, NoMemory> {
+        let mut entries = Items::new(alloc);
+        entries.push(Entry {
+            table: 1,
+            name: Str::from_str(alloc, "E")?,
+            span: PLACE,
+        })?;
+        match Boxed::new(
+            alloc,
+            Block {
+                entries,
+                cond,
+                span: SUBQUERY,
+            },
+        ) {
+            Ok(block) => Ok(block),
+            Err(_) => Err(NoMemory),
+        }
+    }
+
+    /// `deptno NOT IN (SELECT mgr FROM emp)`, in a query over dept.
+    fn manages_nothing(alloc: Global) -> Result<Cond, NoMemory> {
+        match over_employees(alloc, Cond::True) {
+            Ok(block) => Ok(Cond::In {
+                term: cell(0, 0),
+                block,
+                item: cell(1, 3),
+                negated: true,
+                span: PLACE,
+            }),
+            Err(error) => Err(error),
+        }
+    }
+
+    /// `sal > (SELECT e.sal FROM emp e WHERE e.job = 'PRESIDENT')`, in a query over emp.
+    fn above_president(alloc: Global) -> Result<Cond, NoMemory> {
+        let is_president = Cond::Compare {
+            op: Op::Eq,
+            left: cell(1, 2),
+            right: Term::Text(Str::from_str(alloc, "PRESIDENT")?),
+            span: PLACE,
+        };
+        match over_employees(alloc, is_president) {
+            Ok(block) => Ok(Cond::Scalar {
+                op: Op::Gt,
+                left: cell(0, 4),
+                block,
+                item: cell(1, 4),
+                span: PLACE,
+            }),
+            Err(error) => Err(error),
+        }
+    }
+
+    /// One level with one entry.
+    fn level(alloc: Global, number: u32) -> Result<Items<Items<u32>>, NoMemory> {
+        let mut entries = Items::new(alloc);
+        entries.push(number)?;
+        let mut levels = Items::new(alloc);
+        levels.push(entries)?;
+        Ok(levels)
+    }
+
+    /// The truth at the first row of a table. The schema does not matter.
+    fn truth_at(
+        alloc: Global,
+        all: bool,
+        cond: &Cond,
+        table: u32,
+    ) -> Result<Result<Truth, TruthStop>, Fail> {
+        let schema = Schema::new(Items::new(alloc)).ok_or("a schema")?;
+        let at = Binding {
+            levels: level(alloc, 0)?,
+        };
+        let tables = level(alloc, table)?;
+        Ok(truth(alloc, &schema, &database(alloc, all)?, cond, &tables, &at))
+    }
+
+    #[test]
+    fn null_among_the_items_is_unknown(rt: HostRuntime) -> Result<(), Fail> {
+        let alloc = rt.alloc();
+        match manages_nothing(alloc) {
+            Ok(cond) => {
+                assert_eq!(rt; truth_at(alloc, false, &cond, 0)?, Ok(Truth::Unknown));
+                Ok(())
+            }
+            Err(error) => Err(error.into()),
+        }
+    }
+
+    #[test]
+    fn two_rows_stop_the_truth(rt: HostRuntime) -> Result<(), Fail> {
+        let alloc = rt.alloc();
+        match above_president(alloc) {
+            Ok(cond) => {
+                let stop = TruthStop::TwoRows { span: SUBQUERY };
+                assert_eq!(rt; truth_at(alloc, false, &cond, 1)?, Ok(Truth::Unknown));
+                assert_eq!(rt; truth_at(alloc, true, &cond, 1)?, Err(stop));
+                Ok(())
+            }
+            Err(error) => Err(error.into()),
+        }
+    }
 }
