@@ -16,6 +16,8 @@
 #![tactic(auto)]
 
 mod asked;
+#[cfg(test)]
+mod asked_tests;
 mod certificate;
 mod condition;
 mod copies;
