@@ -18,6 +18,8 @@
 #![tactic(auto)]
 
 mod asked;
+#[cfg(test)]
+mod asked_tests;
 mod certificate;
 mod condition;
 mod copies;
