@@ -1,1 +1,3 @@
-
+mod ReplacedParts
+mod Reached
+mod Sought

@@ -1,2 +1,5 @@
 pub mod Stops
 pub mod Violations
+pub mod Behind
+pub mod Replacing
+pub mod Reached

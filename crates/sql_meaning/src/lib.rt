@@ -6,6 +6,12 @@
 //! lint_core.
 #![tactic(auto)]
 
+mod conjunction;
+mod replacing;
 mod stop;
+mod subqueries;
 
+pub use conjunction::conjuncts;
+pub use replacing::replaced;
 pub use stop::TruthStop;
+pub use subqueries::{Subquery, not_in_subquery, scalar_subquery};
