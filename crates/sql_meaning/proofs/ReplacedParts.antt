@@ -1,8 +1,7 @@
 -- What a condition of each kind is with a predicate replaced, and what is left of the number behind it.
-use Rattle.std.proofs.Common.{◌≡◌, ◌∙◌, refl, sym, ap, ap₂, ℕ, zero, suc, ◌+◌, ◌-◌, ◌≤◌, ◌<◌, Bool, true, false, List, [], ◌∷◌, ◌++◌, length, map, Option, None, Some, nat_lt, if◌then◌else◌, arith, length-append}
+use Rattle.std.proofs.Common.{◌≡◌, ◌∙◌, refl, sym, ap, ap₂, ℕ, zero, suc, ◌+◌, ◌-◌, ◌≤◌, Bool, true, false, List, [], ◌∷◌, length, Option, None, Some, nat_lt, if◌then◌else◌, arith}
 use Rattle.std.proofs.lemmas.Bool.Decides.{nat_tests}
 use Rattle.std.proofs.lemmas.Bool.{le-ltb, ltb-false}
-use Rattle.std.specs.List.{flat_map}
 use Rattle.lint_base.specs.declared.place.Span.{Span}
 use Rattle.lint_tables.specs.declared.op.Op.{Op}
 use Rattle.lint_core.specs.declared.condition.Term.{Term}
@@ -10,10 +9,9 @@ use Rattle.lint_core.specs.declared.condition.Cond.{Cond}
 use Rattle.lint_core.specs.declared.condition.Cond.TheVariants as c
 use Rattle.lint_core.specs.declared.condition.Block.{Block, roll-out-Block}
 use Rattle.lint_core.specs.Predicates.{predicates, with_replaced, first_or}
-use Rattle.lint_core.proofs.Parted.{predicates_true, predicates_false, predicates_and, predicates_or, predicates_not, predicates_compare, predicates_is_null, predicates_exists, predicates_in, predicates_scalar}
 use Rattle.lint_core.proofs.Parted.{replaced_true, replaced_false, replaced_and, replaced_or, replaced_not, replaced_compare, replaced_is_null, replaced_exists, replaced_in_subquery, replaced_scalar}
 use Rattle.lint_core.proofs.Parted.{replaced_among, replaced_kept, block_replaced}
-use Rattle.sql_meaning.specs.Replacing.{is_zero, after, replaced_at, parts_at, alone_at, block_at, around_at}
+use Rattle.sql_meaning.specs.Replacing.{after, replaced_at, parts_at, alone_at, block_at, around_at}
 
 -- what is left
 

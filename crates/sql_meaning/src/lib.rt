@@ -10,6 +10,8 @@ mod conjunction;
 mod replacing;
 mod stop;
 mod subqueries;
+#[cfg(test)]
+mod walk_tests;
 
 pub use conjunction::conjuncts;
 pub use replacing::replaced;
