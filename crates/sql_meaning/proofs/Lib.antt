@@ -3,3 +3,6 @@ mod Standing
 mod Steps
 mod Truths
 mod Weights
+mod ReplacedParts
+mod Reached
+mod Sought

@@ -6,10 +6,18 @@
 //! lint_core.
 #![tactic(auto)]
 
+mod conjunction;
 mod evaluation;
 mod levels;
+mod replacing;
 mod stop;
+mod subqueries;
 mod value;
+#[cfg(test)]
+mod walk_tests;
 
+pub use conjunction::conjuncts;
 pub use evaluation::truth;
+pub use replacing::replaced;
 pub use stop::TruthStop;
+pub use subqueries::{Subquery, not_in_subquery, scalar_subquery};
