@@ -30,7 +30,7 @@ mod worked;
 
 pub use certificate::{Cert, Step, SumEdge};
 pub use condition::{Block, Cond, Entry, Term};
-pub use database::{Binding, Counter, Database, Points, Row, Truth, Value};
+pub use database::{Binding, Counter, Database, Points, Row, Truth, Value, Violation};
 pub use formula::{Atom, Formula, Side};
 pub use laws::{
     accepted_steps_refute, certified_question_holds, first_form_is_tested, formula_says_truth,

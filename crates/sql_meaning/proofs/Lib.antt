@@ -1,1 +1,2 @@
-
+mod ViolationsFound
+mod ViolationsMet

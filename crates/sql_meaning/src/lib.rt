@@ -6,6 +6,9 @@
 //! lint_core.
 #![tactic(auto)]
 
+mod meets;
 mod stop;
+mod stub;
+mod violation;
 
 pub use stop::TruthStop;
