@@ -1,0 +1,1 @@
+-- A database meets a schema exactly where it violates nothing.
