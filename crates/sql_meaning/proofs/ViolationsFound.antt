@@ -1,6 +1,7 @@
 -- What loops over rows and over numbered parts have found so far, and what is then the first of all.
-use Rattle.std.proofs.Common.{◌≡◌, ◌∙◌, sym, ap, refl, subst, ℕ, zero, suc, ◌+◌, ◌<◌, add-one, Bool, true, false, ◌&&◌, ◌||◌, cond, List, [], ◌∷◌, ◌++◌, length, map, drop, arith, append-nil, append_assoc, inl, inr, ◌⊎◌}
+use Rattle.std.proofs.Common.{◌≡◌, ◌∙◌, sym, ap, refl, subst, ℕ, zero, suc, ◌+◌, ◌<◌, add-one, Bool, true, false, ◌&&◌, ◌||◌, cond, List, [], ◌∷◌, ◌++◌, length, map, drop, get_or, arith, append-nil, append_assoc, inl, inr, ◌⊎◌}
 use Rattle.std.proofs.lemmas.Bool.{cases_lt, or_left, or_right, or_from}
+use Rattle.std.proofs.Math.Seq.{drop-cons}
 use Rattle.std.proofs.lemmas.Bool.Decides.{nat_tests}
 use Rattle.std.proofs.lemmas.List.{map-append}
 use Rattle.std.proofs.lemmas.List.Elements.{filter-append}
@@ -96,13 +97,21 @@ module _ {B : Type 0} (at : ℕ → B) (test : B → Bool) where
       ∙ list_any-append test (map at (below i)) (at i ∷ [])
       ∙ or_from (list_any test (map at (below i))) (test (at i) || false) none (or_from (test (at i)) false fails refl)
 
-module _ {A : Type 0} (found : ℕ → A → List Violation) where
-  -- the first of what is found from here on, where something is found here
-  pub part_found : (i : ℕ) (x : A) (xs : List A) (violation : Violation) → slice_get (found i x) 0 ≡ Some violation → slice_get (numbered found i (x ∷ xs)) 0 ≡ Some violation
-  part_found i x xs violation at = first_of_found (found i x) (numbered found (suc i) xs) violation at
+-- a loop over parts that are numbered: what is found from this one on is the whole
+module _ {A : Type 0} (found : ℕ → A → List Violation) (xs : List A) (whole : Option Violation) (i : ℕ) (x : A) where
+  from_here : i < length xs → x ≡ get_or xs i x → numbered found i (drop i xs) ≡ found i x ++ numbered found (i + 1) (drop (i + 1) xs)
+  from_here low is =
+      ap (numbered found i) (drop-cons xs i x low)
+      ∙ ap (λ y. found i y ++ numbered found (suc i) (drop (suc i) xs)) (sym is)
+      ∙ ap (λ k. found i x ++ numbered found k (drop k xs)) (sym (add-one i))
 
-  pub part_passed : (i : ℕ) (x : A) (xs : List A) → slice_get (found i x) 0 ≡ None → slice_get (numbered found i (x ∷ xs)) 0 ≡ slice_get (numbered found (i + 1) xs) 0
-  part_passed i x xs none = first_of_none (found i x) (numbered found (suc i) xs) none ∙ ap (λ k. slice_get (numbered found k xs) 0) (sym (add-one i))
+  pub part_found : (violation : Violation) → slice_get (numbered found i (drop i xs)) 0 ≡ whole → i < length xs → x ≡ get_or xs i x → Some violation ≡ slice_get (found i x) 0 → Some violation ≡ whole
+  part_found violation invariant low is here =
+      sym (first_of_found (found i x) (numbered found (i + 1) (drop (i + 1) xs)) violation (sym here)) ∙ ap (λ vs. slice_get vs 0) (sym (from_here low is)) ∙ invariant
+
+  pub part_passed : slice_get (numbered found i (drop i xs)) 0 ≡ whole → i < length xs → x ≡ get_or xs i x → None ≡ slice_get (found i x) 0 → slice_get (numbered found (i + 1) (drop (i + 1) xs)) 0 ≡ whole
+  part_passed invariant low is none =
+      sym (first_of_none (found i x) (numbered found (i + 1) (drop (i + 1) xs)) (sym none)) ∙ ap (λ vs. slice_get vs 0) (sym (from_here low is)) ∙ invariant
 
 nat_eq-zero_suc : (n : ℕ) → nat_eq 0 (suc n) ≡ false
 nat_eq-zero_suc n = grind (arith, nat_tests)

@@ -6,9 +6,10 @@
 //! lint_core.
 #![tactic(auto)]
 
-mod meets;
+mod database_meets;
 mod stop;
 mod stub;
 mod violation;
 
+pub use database_meets::{meets, violations_are_failures};
 pub use stop::TruthStop;

@@ -80,3 +80,63 @@ fn dangling_key(database: &Database, table: u32, keys: &[ForeignKey]) -> Option<
     }
     None
 }
+
+/// The first violation in a table of this number.
+fn violation_of_table(
+    alloc: Global,
+    database: &Database,
+    number: u32,
+    table: &Table,
+) -> Result<Option<Violation>, NoMemory>
+    requires few { has_few_rows database.now ≡ true }
+    requires columns { length table.now.columns < 2 ^ 32 }
+    requires keys { length table.now.keys < 2 ^ 32 }
+    requires checks { length table.now.checks < 2 ^ 32 }
+    requires foreign { length table.now.foreign < 2 ^ 32 }
+    ensures { IfOk result (λ found. found ≡ slice_get (table_violations database.now number table.now) 0) }
+{
+    let columns = table.columns.as_slice();
+    let mut found = outside_a_column(database, number, columns);
+    if found.is_none() {
+        found = null_in_a_column(database, number, columns);
+    }
+    if found.is_none() {
+        found = twice_in_a_key(database, number, table.keys.as_slice());
+    }
+    if found.is_none() {
+        found = false_check(alloc, database, number, table.checks.as_slice())?;
+    }
+    if found.is_none() {
+        found = dangling_key(database, number, table.foreign.as_slice());
+    }
+    Ok(found)
+}
+
+/// The first place at which a database that fits a schema does not meet it: by table; then values outside
+/// their domains, NULLs in columns that are NOT NULL, two rows with one key, false CHECKs and rows whose
+/// foreign key refers to nothing; each by column, key or CHECK, and then by row. `None` exactly where the
+/// database meets the schema.
+pub fn meets(
+    alloc: Global,
+    schema: &Schema,
+    database: &Database,
+) -> Result<Option<Violation>, NoMemory>
+    requires fits { database_fits schema.now database.now ≡ true }
+    requires few { has_few_rows database.now ≡ true }
+    ensures first { IfOk result (λ found. found ≡ first_violation schema.now database.now) }
+    ensures met { IfOk result (λ found. is_none found ≡ meets schema.now database.now) }
+{
+    for (number, table) in schema.tables().as_slice().iter().enumerate() {
+        if let Some(found) = violation_of_table(alloc, database, number as u32, table)? {
+            return Ok(Some(found));
+        }
+    }
+    Ok(None)
+}
+
+/// A database that fits a schema meets it exactly where it has no violation. The function does nothing:
+/// its contract is a law about the definitions.
+pub fn violations_are_failures()
+    ensures { (schema : List Table) (database : Database) → database_fits schema database ≡ true
+        → is_none (first_violation schema database) ≡ meets schema database }
+{}
