@@ -1,2 +1,3 @@
+mod TableSizes
 mod ViolationsFound
 mod ViolationsMet

@@ -4,6 +4,7 @@ ghost use Rattle.lint_core.specs.declared.database.Database.{Database};
 ghost use Rattle.lint_core.specs.declared.schema.Table.{Table};
 ghost use Rattle.lint_core.specs.DatabaseFits.{database_fits, has_few_rows};
 ghost use Rattle.lint_core.specs.Meets.{meets};
+ghost use Rattle.lint_core.specs.Schema.{is_schema};
 ghost use Rattle.sql_meaning.specs.Violations.{numbered, outside, nulls, twice, false_checks, dangling, table_violations, violations, first_violation};
 
 use crate::violation::{first_dangling, first_false, first_null, first_outside, first_twice};
@@ -112,10 +113,29 @@ fn violation_of_table(
     Ok(found)
 }
 
+/// The first violation in the tables of a schema.
+fn violation_of_tables(
+    alloc: Global,
+    database: &Database,
+    tables: &[Table],
+) -> Result<Option<Violation>, NoMemory>
+    requires few { has_few_rows database.now ≡ true }
+    requires schema { is_schema tables.now ≡ true }
+    ensures { IfOk result (λ found. found ≡ first_violation tables.now database.now) }
+{
+    for (number, table) in tables.iter().enumerate() {
+        if let Some(found) = violation_of_table(alloc, database, number as u32, table)? {
+            return Ok(Some(found));
+        }
+    }
+    Ok(None)
+}
+
 /// The first place at which a database that fits a schema does not meet it: by table; then values outside
 /// their domains, NULLs in columns that are NOT NULL, two rows with one key, false CHECKs and rows whose
 /// foreign key refers to nothing; each by column, key or CHECK, and then by row. `None` exactly where the
 /// database meets the schema.
+#[tactic(auto, using(crate::proofs::ViolationsMet::none_violated))]
 pub fn meets(
     alloc: Global,
     schema: &Schema,
@@ -126,12 +146,7 @@ pub fn meets(
     ensures first { IfOk result (λ found. found ≡ first_violation schema.now database.now) }
     ensures met { IfOk result (λ found. is_none found ≡ meets schema.now database.now) }
 {
-    for (number, table) in schema.tables().as_slice().iter().enumerate() {
-        if let Some(found) = violation_of_table(alloc, database, number as u32, table)? {
-            return Ok(Some(found));
-        }
-    }
-    Ok(None)
+    violation_of_tables(alloc, database, schema.tables().as_slice())
 }
 
 /// A database that fits a schema meets it exactly where it has no violation. The function does nothing:
