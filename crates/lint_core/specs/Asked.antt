@@ -1,8 +1,8 @@
 -- Which questions are asked of a query, and in what order: E9, E1 to E8, E10, those of one kind by position. In
 -- this order E9 asks of each scalar subquery; E1 of the query; E2 of its DISTINCT; E3 of each written item that is
 -- a column; E4 of each two such items of one kind; E5 of each entry of the main FROM list, beside others, that no
--- item and no order key names, where no conjunct that does not name it has a scalar subquery; E6 and E7 of each
--- predicate; E8 of each two main entries of one table; E10 of each NOT IN subquery that selects a column.
+-- item and no order key names, where no conjunct that does not name it has a scalar subquery; E6 of each
+-- predicate, then E7 of each; E8 of each two main entries of one table; E10 of each NOT IN subquery that selects a column.
 use Rattle.std.specs.Prelude.{ℕ, Bool, true, false, ◌&&◌, ◌||◌, not, nat_eq, nat_lt, List, [], ◌∷◌, ◌++◌, length, map, Option, slice_get, is_some}
 use Rattle.std.specs.List.{list_any, filter, flat_map}
 use Rattle.std.specs.Option.{option_map_or}
@@ -47,6 +47,7 @@ conjuncts_without entry query = filter (λ c. not (names entry c)) (conjuncts (m
 abbrev pub is_written_column : Item → Bool
 is_written_column item = is_column item.term && not item.star
 
+-- an item, also one from `*`, or an order key names the entry
 abbrev pub is_selected : Query → ℕ → Bool
 is_selected query entry = list_any (λ (item : Item). term_names entry item.term) query.items || list_any (term_names entry) query.order
 
@@ -82,6 +83,7 @@ module _ (schema : List Table) (query : Query) where
 abbrev pub each_two : (ℕ → ℕ → Question) → ℕ → List Question
 each_two question n = flat_map (λ i. map (question i) (below n)) (below n)
 
+-- all questions by number, of which those are asked that the test says yes of
 abbrev pub candidates : Query → List Question
 candidates query =
     map OneRow (below (length (scalars_of query)))

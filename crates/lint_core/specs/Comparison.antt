@@ -1,7 +1,8 @@
 -- Comparison of two values (ISO/IEC 9075:1992, 8.2). Two numbers are compared as whole numbers, and two
--- texts by = and <> character by character, without padding. It is unknown where one side is NULL, and of
--- any other pair (no query that fits its schema compares one in a database of the schema's domains).
--- A cell's number and what is added to it are added without overflow.
+-- texts by = and <> character by character. It is unknown where one side is NULL, and of any other pair (no
+-- query that fits its schema compares one in a database of the schema's domains). A cell's number and what is
+-- added to it are added. That texts are not padded and sums do not overflow is this project's own, and so is
+-- what any other pair gives.
 use Rattle.std.specs.Prelude.{ℕ, ℤ, ◌+ℤ◌, Bool, true, false, not, nat_eq, List}
 use Rattle.std.specs.Cmp.Lexicographic.{pointwise}
 use Rattle.lint_tables.specs.declared.op.Op.{Op}

@@ -2,8 +2,10 @@
 -- A binding has one row place for each FROM entry of each level, the outermost first; the entries' tables,
 -- as many and in the same order, say of which table. A condition has no truth where a scalar subquery that
 -- it contains gives two rows: at the binding itself, or at some inner binding of a subquery in which it
--- stands, also where another part alone would decide. In place of a truth there stands then the place of the
--- first such subquery, with the parts from left to right and the inner bindings in their order.
+-- stands, also where another part alone would decide (this project's own rule). Instead of a truth there is
+-- then the place in the text of the scalar subquery that is met first: the parts from left to right; in a
+-- subquery one inner binding after the other, in the order of `row_lists`; what a scalar subquery contains
+-- before it itself. So one whose own condition has no truth at some inner binding is not named itself.
 use Rattle.std.specs.Prelude.{ℕ, Bool, List, [], ◌∷◌, ◌++◌, map, Option, Some, slice_get, unwrap_or, option_and_then, false, if◌then◌else◌}
 use Rattle.std.specs.Prelude.{Ok, Err}
 use Rattle.lint_base.specs.declared.place.Span.{Span}
@@ -43,7 +45,7 @@ abbrev pub exists_truth : List Inner → Truth
 exists_truth [] = False
 exists_truth (inner ∷ others) = True
 
--- IN: true where some comparison is true, else unknown where some is unknown, else false
+-- IN, the OR of its comparisons: true where one is true, else unknown where one is unknown, else false
 abbrev pub in_truth : Value → List Value → Truth
 in_truth left items = or_of (map (λ item. compare Eq left item) items)
 
@@ -72,7 +74,7 @@ module _ (db : Database) where
   place_of tables binding level entry =
       option_and_then (λ table. option_and_then (λ row. Some (record { table = table; row = row })) (at_entry binding level entry)) (at_entry tables level entry)
 
-  -- the value of a cell's column in its row (NULL where there is no such cell, which no bound query has)
+  -- the value of a cell's column in its row (NULL where there is no such cell or row)
   abbrev pub cell_value : List (List ℕ) → List (List ℕ) → ℕ → ℕ → ℕ → Value
   cell_value tables binding level entry column =
       unwrap_or (option_and_then (λ place. value_at db place column) (place_of tables binding level entry)) value.Null
@@ -122,6 +124,8 @@ module _ (db : Database) where
     bindings = inner_bindings (map (λ (e : Entry). e.table) block.entries) block.cond;
   }
 
+  -- the truth of a condition, built from the inside out: in each layer the parts are already functions from
+  -- tables and binding to a truth
   abbrev pub truth : Cond → Meaning
   truth = fold-Cond Meaning BlockMeaning cond_step block_step
 

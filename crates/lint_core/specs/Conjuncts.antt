@@ -1,5 +1,5 @@
 -- The conjuncts of a condition: the parts of a conjunction, with those that are conjunctions themselves opened
--- too; any other condition is one conjunct.
+-- too; any other condition is one conjunct. An AND of nothing has none.
 use Rattle.std.specs.Prelude.{List, [], ◌∷◌}
 use Rattle.std.specs.List.{flat_map}
 use Rattle.lint_core.specs.declared.condition.Cond.{Cond}

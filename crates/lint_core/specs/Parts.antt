@@ -1,5 +1,5 @@
--- Definitions on conditions that speak of the parts of a condition, and not of their meanings alone: each part
--- stands there with its meaning. (What is called itself is put together again from its layers.)
+-- For definitions by layers that need each part itself beside what was made of it, to list it or to leave it as
+-- it was. `described` gives both; `itself` is the part, put together again from its layers and equal to it.
 use Rattle.lint_core.specs.declared.condition.Cond.{Cond, fold-Cond, roll-Cond, map-Cond}
 use Rattle.lint_core.specs.declared.condition.Cond.TheOpen.{Cond-F, Block-F}
 use Rattle.lint_core.specs.declared.condition.Block.{Block, roll-Block, map-Block}

@@ -1,7 +1,8 @@
--- The predicates of a condition (ISO/IEC 9075:1992, 8.1): its comparisons, IS NULL, IN, EXISTS, and comparisons
--- with a scalar subquery, also those in the subqueries of EXISTS and IN at any depth; what stands inside a
--- scalar subquery is none. They are numbered from 0 in the order of the text, and one that has a subquery
--- stands before those inside it.
+-- The predicates of a condition (ISO/IEC 9075:1992, 8.1): its comparisons, IS NULL, IN with a subquery, EXISTS, and
+-- comparisons with a scalar subquery, also those in the subqueries of EXISTS and IN at any depth; what stands
+-- inside a scalar subquery is none. (BETWEEN and IN with a list are comparisons here; a NOT before a predicate
+-- stands outside it.) They are numbered from 0 in the order of the text, and one that has a subquery stands
+-- before those inside it. Where no predicate has a number, replacing it changes nothing.
 use Rattle.std.specs.Prelude.{ℕ, zero, suc, ◌-◌, List, [], ◌∷◌, length, map, nat_lt, if◌then◌else◌}
 use Rattle.std.specs.List.{flat_map}
 use Rattle.lint_base.specs.declared.place.Span.{Span}
@@ -11,7 +12,7 @@ use Rattle.lint_core.specs.declared.condition.Cond.TheVariants as cond
 use Rattle.lint_core.specs.declared.condition.Block.{Block, roll-Block}
 use Rattle.lint_core.specs.Parts.{With, described, cond_itself}
 
--- the places of the predicates in order, and the condition with the predicate of a number replaced
+-- the places of the predicates in the text, in order, and the condition with the predicate of a number replaced
 pub record Replaceable (T : Type 0) : Type 0 where
   pub places : List Span
   pub replaced : ℕ → T

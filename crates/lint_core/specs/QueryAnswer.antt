@@ -1,4 +1,4 @@
--- The answer of a query (ISO/IEC 9075:1992, 7.9 and 7.6): a multiset of rows, one for each binding of the main
+-- The answer of a query (ISO/IEC 9075:1992, 7.9 and 7.6): a multiset of rows (the order of the list means nothing), one for each binding of the main
 -- entries at which the condition of WHERE is true. With DISTINCT it has one of each set of rows that are not
 -- distinct. There is none where the condition has no truth at some binding.
 use Rattle.std.specs.Prelude.{Bool, not, List, [], ◌∷◌, map, is_some, if◌then◌else◌}

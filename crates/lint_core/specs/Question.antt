@@ -1,7 +1,7 @@
 -- When points refute a question of a query. They have the question's form and name existing rows; and then the
 -- clause of the question says what has to be true there. A clause is decided only where each condition that it
--- names has a truth at each binding that it names: else there stands in its place that of the first scalar
--- subquery that gives two rows.
+-- names has a truth at each binding that it names: instead of yes or no there is else the place in the text of
+-- the first scalar subquery that gives two rows. Of a question that is not asked of the query nothing is claimed.
 use Rattle.std.specs.Prelude.{ℕ, Bool, true, false, ◌&&◌, ◌||◌, ◌≡◌, not, nat_lt, List, [], ◌∷◌, length, map, Option, slice_get, unwrap_or, if◌then◌else◌, remove}
 use Rattle.std.specs.List.{list_all, list_any}
 use Rattle.std.specs.Option.{option_map_or}
@@ -75,6 +75,7 @@ module _ (db : Database) (query : Query) where
   have_form (Impossible predicate) (One one) = is_main_binding one
   have_form (SameRow entry other) (One one) = is_main_binding one
   have_form (NullInNotIn sub) (One one) = option_map_or (is_inner_binding one) (slice_get (not_ins_of query) sub) false
+  -- points of another form
   have_form question points = false
 
   -- ---- the clauses
@@ -126,21 +127,22 @@ module _ (db : Database) (query : Query) where
   clause Empty given (One one) = all_true (where_truth one ∷ [])
   -- the answer without DISTINCT has two rows that are not distinct
   clause NeedlessDistinct given (Two one two) = map_ok (λ both. both && are_same_items one two) (all_true (where_truth one ∷ where_truth two ∷ []))
-  -- the item has another value
+  -- the item has a distinct value
   clause (Constant item) given (One one) = map_ok (λ here. here && not (are_not_distinct (value_of_item one item) given)) (all_true (where_truth one ∷ []))
-  -- the two items have different values
+  -- the two items have distinct values
   clause (Duplicate item other) given (One one) =
       map_ok (λ here. here && not (are_not_distinct (value_of_item one item) (value_of_item one other))) (all_true (where_truth one ∷ []))
-  -- no row of the entry fits; or two do
+  -- no row of the entry fits; or two do. (0 stands in for a row of the entry, which these conjuncts do not name)
   clause (NeedlessJoin entry) given (Without one) = all_hold (are_true_with entry one 0 (conjuncts_without entry query) ∷ no_row_fits entry one ∷ [])
   clause (NeedlessJoin entry) given (Two one two) = all_true (where_truth one ∷ where_truth two ∷ [])
-  -- the predicate is not needed, or not to be met
+  -- exactly one of the two is true: WHERE, and WHERE with TRUE, or with FALSE, in place of the predicate
   clause (Implied predicate) given (One one) = one_is_true (where_truth one) (where_replaced cond.True predicate one)
   clause (Impossible predicate) given (One one) = one_is_true (where_truth one) (where_replaced cond.False predicate one)
   -- the two entries have different rows
   clause (SameRow entry other) given (One one) = map_ok (λ here. here && not (is_same_row one.levels entry other)) (all_true (where_truth one ∷ []))
   -- the subquery selects NULL
   clause (NullInNotIn sub) given (One one) = map_ok (λ here. here && is_null (inner_value (not_ins_of query) sub one)) (all_true (inner_truth (not_ins_of query) sub one ∷ []))
+  -- points of another form: not reached from `outcome`
   clause question given points = Ok false
 
   -- whether the points refute the question, where that can be decided
@@ -150,9 +152,19 @@ module _ (db : Database) (query : Query) where
   abbrev pub refutes : Question → Value → Points → Bool
   refutes question given points = is_known_true (outcome question given points)
 
-  -- no points refute the question
+  -- no points refute the question. Points at which it cannot be decided refute nothing; there are such only where
+  -- some scalar subquery gives two rows
   abbrev pub HoldsIn : Question → Value → Type 0
   HoldsIn question given = (points : Points) → refutes question given points ≡ false
+
+  -- how many scalar subqueries are asked of before a question
+  abbrev pub scalars_before : Question → ℕ
+  scalars_before (OneRow sub) = sub
+  scalars_before other = length (scalars_of query)
+
+  -- each of them gives at most one row: a question is judged in the databases in which this holds
+  abbrev pub EarlierHold : Question → Type 0
+  EarlierHold question = (sub : ℕ) → nat_lt sub (scalars_before question) ≡ true → HoldsIn (OneRow sub) Null
 
 -- the condition of WHERE and of each ON is true at a binding of the main entries
 abbrev pub where_is_true : Database → Query → List (List ℕ) → Bool

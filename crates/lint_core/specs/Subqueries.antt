@@ -12,7 +12,8 @@ use Rattle.lint_core.specs.Parts.{With, described}
 use Rattle.lint_core.specs.Fits.{tables_of}
 
 -- a subquery: the tables of each level that its condition sees, its own last, its condition and what it
--- selects. The place is that of the subquery, or of the predicate that it stands in
+-- selects. The place in the text is for a scalar subquery its own, from ( to ), and for NOT IN that of the
+-- predicate
 pub record Subquery : Type 0 where
   pub tables : List (List ℕ)
   pub cond : Cond

@@ -3,10 +3,12 @@
 //!
 //! The layer above may use every public type, `Schema::new`, `Query::fits`, `Query::is_first_form` and
 //! the copies. Of `specs/` a reader must believe `Schema` and `Fits` (which schemas and queries there
-//! are), `Domain`, `Database`, `Meets`, `Truth`, `Comparison`, `Condition` and `Question` (what SQL
-//! means), `FirstForm` and `PlainWord` (which queries are judged so far), `Formula`, `Translation` and
-//! `Certificate` (what a certificate is), and `Answer` (when an answer is right). The laws that join them are
-//! contracts of functions that do nothing: `first_form_is_tested` (the test of the first form says yes
+//! are), `Domain`, `Database`, `Meets`, `Truth`, `Comparison`, `Evaluation`, `Condition` and `QueryAnswer` (what
+//! SQL means), `Parts`, `Conjuncts`, `Predicates`, `Subqueries`, `Naming` and `Asked` (which questions are asked),
+//! `Points` and `Question` (when they fail), `DatabaseFits` (which databases a call takes), `FirstForm` and
+//! `PlainWord` (which queries are judged so far), `Formula`, `Translation` and `Certificate` (what a certificate
+//! is), and `Answer` (when an answer is right). The laws that join them are contracts of functions that do
+//! nothing: `first_form_is_tested` (the test of the first form says yes
 //! exactly of these queries), `formula_says_truth` (the formula of a WHERE holds exactly where it is
 //! true), `sentence_says_failure` (the sentence of a question holds exactly where some points refute
 //! it), `accepted_steps_refute` (a sentence that accepted steps refute holds in no database of the

@@ -40,15 +40,16 @@ pub enum Question {
         item: u32,
         other: u32,
     },
-    /// E5: does each combination of the other entries' rows find exactly one row of the entry?
+    /// E5: does each combination of the other entries' rows, at which the conjuncts that do not name the
+    /// entry are true, find exactly one row of it that makes the other conjuncts true?
     NeedlessJoin {
         entry: u32,
     },
-    /// E6: does WHERE stay the same with TRUE in place of the predicate?
+    /// E6: is WHERE true at the same bindings with TRUE in place of the predicate?
     Implied {
         predicate: u32,
     },
-    /// E7: does WHERE stay the same with FALSE in place of the predicate?
+    /// E7: is WHERE true at the same bindings with FALSE in place of the predicate?
     Impossible {
         predicate: u32,
     },

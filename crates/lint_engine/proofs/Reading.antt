@@ -10,9 +10,8 @@ use Rattle.lint_core.specs.declared.formula.Formula.{Formula}
 use Rattle.lint_core.specs.declared.formula.Formula.TheVariants as f
 use Rattle.lint_core.specs.declared.condition.Entry.{Entry}
 use Rattle.lint_core.specs.declared.query.Query.{Query}
-use Rattle.lint_core.specs.declared.query.Question.TheVariants.{Empty}
 use Rattle.lint_core.specs.FirstForm.{Conjunct, conjunct_cond, where_cond}
-use Rattle.lint_core.specs.Translation.{is_true_step, block_step, is_true_formula, counter_sentence}
+use Rattle.lint_core.specs.Translation.{is_true_step, block_step, is_true_formula, empty_counter}
 use Rattle.lint_engine.specs.declared.comparison.Comparison.{Comparison}
 use Rattle.lint_engine.specs.Plan.{comparisons_among, comparisons_layer, comparisons_in}
 use Rattle.lint_engine.proofs.Branch.{fact_of, formula_of_all, sentence_of}
@@ -64,5 +63,5 @@ formula_of_where (c ∷ next ∷ cs) =
     ∙ ap (λ fs. f.And fs) (formulas_of_conjuncts (c ∷ next ∷ cs)))
 
 -- the sentence of the question
-pub sentence_is : (query : Query) (entry : Entry) (cs : List Conjunct) → query.block.entries ≡ entry ∷ [] → query.block.cond ≡ where_cond cs → counter_sentence query Empty ≡ sentence_of entry.table (comparisons_of cs)
+pub sentence_is : (query : Query) (entry : Entry) (cs : List Conjunct) → query.block.entries ≡ entry ∷ [] → query.block.cond ≡ where_cond cs → empty_counter query ≡ sentence_of entry.table (comparisons_of cs)
 sentence_is query entry cs entries is = rw (entries, is) (ap (λ body. f.Exists entry.table body) (formula_of_where cs))

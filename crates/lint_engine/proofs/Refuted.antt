@@ -2,9 +2,8 @@
 use Rattle.std.proofs.Common.{◌≡◌, ◌∙◌, sym, ap, refl, subst, ℕ, zero, suc, ◌+◌, ◌-◌, ◌<◌, length, ℤ, pos, ◌+ℤ◌, Bool, true, false, not, List, [], ◌∷◌, ◌++◌, map, replicate, arith}
 use Rattle.std.proofs.lemmas.Bool.{and_from, and_parts, or_left, or_right, eq-eqb}
 use Rattle.std.proofs.lemmas.Option.{none-some, same_Some, slice_get_within}
-use Rattle.std.specs.Prelude.{Option, Some, slice_get, unwrap_or, nat_eq}
+use Rattle.std.specs.Prelude.{Option, Some, Ok, slice_get, unwrap_or, nat_eq}
 use Rattle.std.specs.List.{AllByRecursion}
-use Rattle.std.specs.Option.{option_map}
 use Rattle.std.proofs.lemmas.List.Elements.{recursion_from_All}
 use Rattle.lint_core.specs.declared.condition.Term.TheVariants as term
 use Rattle.lint_core.specs.declared.schema.Unit.TheVariants.{Whole}
@@ -19,16 +18,21 @@ use Rattle.lint_core.specs.declared.database.Points.TheVariants.{One}
 use Rattle.lint_core.specs.declared.condition.Entry.{Entry}
 use Rattle.lint_core.specs.declared.query.Query.{Query}
 use Rattle.lint_core.specs.declared.query.Question.TheVariants.{Empty}
+use Rattle.lint_core.specs.declared.database.Binding.{Binding}
+use Rattle.lint_core.specs.Evaluation.{map_ok, all_ok}
+use Rattle.lint_core.specs.Points.{is_binding}
+use Rattle.lint_core.specs.Fits.{main_tables}
+use Rattle.lint_core.specs.Question.{where_truth, refutes}
 use Rattle.lint_core.specs.declared.schema.Column.{Column}
 use Rattle.lint_core.specs.declared.schema.Table.{Table}
 use Rattle.lint_core.specs.FirstForm.{Conjunct, conjunct_cond, where_cond, IsFirstForm, is_number, is_plain_column}
 use Rattle.lint_core.specs.Database.{rows_of}
-use Rattle.lint_core.specs.Condition.{truth, all_present}
+use Rattle.lint_core.specs.Condition.{truth, is_true_at}
 use Rattle.lint_tables.specs.Operators.{is_related}
 use Rattle.lint_core.specs.Truth.{and_of}
 use Rattle.lint_core.specs.Meets.{values_meet, rows_meet, tables_meet, no_nulls, all_constraints_met}
 use Rattle.lint_core.specs.Answer.{IsRefuted}
-use Rattle.lint_core.proofs.Conditions.{truth_compare, truth_and}
+use Rattle.lint_core.proofs.Conditions.{truth_compare, truth_and, known}
 use Rattle.lint_engine.specs.declared.comparison.Comparison.{Comparison}
 use Rattle.lint_engine.specs.Plan.{is_named, number_of, cells_of, one_row_in}
 use Rattle.lint_engine.proofs.Reading.{comparison_of_conjunct, comparisons_of}
@@ -83,16 +87,16 @@ module _ (db : Database) (t : ℕ) (row : Row) (rows : rows_of db t ≡ row ∷ 
   first = (0 ∷ []) ∷ []
 
   conjunct_true : (c : Conjunct) (n : ℤ) → slice_get row.values c.column ≡ Some (Int n) → is_related c.op (n +ℤ pos 0) c.literal ≡ true →
-      truth db (conjunct_cond c) entries first ≡ Some True
+      truth db (conjunct_cond c) entries first ≡ Ok True
   conjunct_true c n at related =
       truth_compare db c.op (term.Cell 0 0 c.column (pos 0)) (term.Number c.literal Whole) c.span entries first ∙ rw (rows, at, related) refl
 
   module _ (values : List ℤ) (columns : List Column) (all : List Comparison) (cells : row.values ≡ cells_of values all 0 columns) where
-    one_true : (c : Conjunct) → c.column < length columns → is_named all c.column ≡ true → IsRelated values (comparison_of_conjunct c) → truth db (conjunct_cond c) entries first ≡ Some True
+    one_true : (c : Conjunct) → c.column < length columns → is_named all c.column ≡ true → IsRelated values (comparison_of_conjunct c) → truth db (conjunct_cond c) entries first ≡ Ok True
     one_true c within named related = conjunct_true c (number_of values c.column) (rw cells (named_cell values all columns c.column within named)) related
 
     all_true : (cs : List Conjunct) → AllByRecursion (λ (c : Conjunct). c.column < length columns) cs → AreNamed all (comparisons_of cs) → AllByRecursion (IsRelated values) (comparisons_of cs) →
-        all_present (map (λ part. truth db part entries first) (map conjunct_cond cs)) ≡ Some (map (λ c. True) cs)
+        all_ok (map (λ part. truth db part entries first) (map conjunct_cond cs)) ≡ Ok (map (λ c. True) cs)
     all_true [] within named related = refl
     all_true (c ∷ cs) within named related =
         rw (one_true c within.0 named.0 related.0, all_true cs within.1 named.1 related.1) refl
@@ -102,13 +106,13 @@ module _ (db : Database) (t : ℕ) (row : Row) (rows : rows_of db t ≡ row ∷ 
     and_of_true (c ∷ cs) = and_of_true cs
 
     and_true : (cs : List Conjunct) → AllByRecursion (λ (c : Conjunct). c.column < length columns) cs → AreNamed all (comparisons_of cs) → AllByRecursion (IsRelated values) (comparisons_of cs) →
-        truth db (cond.And (map conjunct_cond cs)) entries first ≡ Some True
+        truth db (cond.And (map conjunct_cond cs)) entries first ≡ Ok True
     and_true cs within named related =
         truth_and db (map conjunct_cond cs) entries first
-        ∙ (ap (option_map and_of) (all_true cs within named related) ∙ ap (λ t. Some t) (and_of_true cs))
+        ∙ (ap (map_ok and_of) (all_true cs within named related) ∙ ap (λ t. Ok t) (and_of_true cs))
 
     where_true : (cs : List Conjunct) → AllByRecursion (λ (c : Conjunct). c.column < length columns) cs → AreNamed all (comparisons_of cs) → AllByRecursion (IsRelated values) (comparisons_of cs) →
-        truth db (where_cond cs) entries first ≡ Some True
+        truth db (where_cond cs) entries first ≡ Ok True
     where_true [] within named related = and_true [] within named related
     where_true (c ∷ []) within named related = one_true c within.0 named.0 related.0
     where_true (c ∷ next ∷ cs) within named related = and_true (c ∷ next ∷ cs) within named related
@@ -135,12 +139,12 @@ no_constraints db table row rows nulls keys checks foreign = rw (rows, nulls, ke
 pub is_refuted : (schema : List Table) (query : Query) (entry : Entry) (table : Table) (cs : List Conjunct) (values : List ℤ) (row : Row) (counter : Counter) →
     IsFirstForm schema query table cs → query.block.entries ≡ entry ∷ [] → entry.table ≡ 0 → slice_get schema entry.table ≡ Some table →
     row.values ≡ cells_of values (comparisons_of cs) 0 table.columns → values_meet table.columns row.values ≡ true → AllByRecursion (IsRelated values) (comparisons_of cs) →
-    counter.database.tables ≡ one_row_in (length schema) entry.table row → counter.points ≡ One (record { levels = (0 ∷ []) ∷ [] }) → IsRefuted schema query Empty counter
+    counter.database.tables ≡ one_row_in (length schema) entry.table row → counter.points ≡ One (record { levels = (0 ∷ []) ∷ [] }) → IsRefuted schema query counter
 is_refuted schema query entry table cs values row counter form entries first_table at cells meet related tables points =
     let rows : rows_of counter.database entry.table ≡ row ∷ [] =
     ap (λ (ts : List (List Row)). unwrap_or (slice_get ts entry.table) []) tables ∙ ap (λ (o : Option (List Row)). unwrap_or o []) (slice_get_behind entry.table (row ∷ []) [] (replicate (length schema - (entry.table + 1)) [])) in
     let within = recursion_from_All (λ (c : Conjunct). c.column < length table.columns) cs form.columns_exist in
-    let true_there : truth counter.database (where_cond cs) ((entry.table ∷ []) ∷ []) ((0 ∷ []) ∷ []) ≡ Some True = where_true counter.database entry.table row rows values table.columns (comparisons_of cs) cells cs within (all_named (comparisons_of cs)) related in
+    let true_there : truth counter.database (where_cond cs) ((entry.table ∷ []) ∷ []) ((0 ∷ []) ∷ []) ≡ Ok True = where_true counter.database entry.table row rows values table.columns (comparisons_of cs) cells cs within (all_named (comparisons_of cs)) related in
     let nulls = nulls_allowed table.columns row.values (recursion_from_All (λ column. is_plain_column column ≡ true) table.columns form.plain_columns) in
     let domains : tables_meet schema counter.database.tables ≡ true = rw tables (one_row_meets schema entry.table table row at meet) in
     let constraints : all_constraints_met counter.database 0 schema ≡ true =

@@ -14,7 +14,6 @@ use Rattle.lint_core.specs.declared.database.Row.{Row}
 use Rattle.lint_core.specs.declared.database.Value.TheVariants.{Null}
 use Rattle.lint_core.specs.declared.condition.Entry.{Entry}
 use Rattle.lint_core.specs.declared.query.Query.{Query}
-use Rattle.lint_core.specs.declared.query.Question.{Question}
 use Rattle.lint_core.specs.declared.query.Question.TheVariants.{Empty}
 use Rattle.lint_core.specs.declared.schema.Column.{Column}
 use Rattle.lint_core.specs.declared.schema.Table.{Table}
@@ -24,7 +23,7 @@ use Rattle.lint_core.specs.FirstForm.{Conjunct, IsFirstForm, is_one_range, is_nu
 use Rattle.lint_core.specs.Meets.{values_meet}
 use Rattle.lint_core.specs.Question.{HoldsAlways}
 use Rattle.lint_core.specs.Schema.{is_domain}
-use Rattle.lint_core.specs.Translation.{counter_sentence}
+use Rattle.lint_core.specs.Translation.{empty_counter}
 use Rattle.diff_bounds.specs.Cycles.{IsNegativeCycle, IsSimple}
 use Rattle.diff_bounds.specs.System.{IsAmong, IsModerate, Holds, Satisfies, value_in}
 use Rattle.lint_engine.specs.declared.comparison.Comparison.{Comparison}
@@ -124,11 +123,11 @@ module _ (schema : List Table) (query : Query) (entry : Entry) (table : Table) (
   pub two : (cycle : List ℕ) → IsNegativeCycle (edges_of plan) cycle → IsSimple (edges_of plan) cycle → length cycle ≡ 2
   two cycle negative simple = cycle_of_two plan cycle (all_one_zero columns comparisons) negative simple
 
-  sentence : counter_sentence query Empty ≡ sentence_of entry.table comparisons
+  sentence : empty_counter query ≡ sentence_of entry.table comparisons
   sentence = rw read.comparisons_are (sentence_is query entry read.conjuncts read.one_entry read.form.filter)
 
   ring_accepted : (cycle : List ℕ) → IsNegativeCycle (edges_of plan) cycle → IsSimple (edges_of plan) cycle →
-      accepts schema (counter_sentence query Empty) (opening_steps comparisons ++ step.Sum (in_order (inequality_at plan (get_or cycle 0 0)) (inequality_at plan (get_or cycle 1 0))) ∷ []) ≡ true
+      accepts schema (empty_counter query) (opening_steps comparisons ++ step.Sum (in_order (inequality_at plan (get_or cycle 0 0)) (inequality_at plan (get_or cycle 1 0))) ∷ []) ≡ true
   ring_accepted cycle negative simple =
       let stated : AllByRecursion (IsStated schema (opened entry.table comparisons)) plan = rw read.columns_are (all_stated schema entry.table table comparisons read.of_table some_comparisons) in
       rw sentence (opening_accepted schema entry.table comparisons (in_order (inequality_at plan (get_or cycle 0 0)) (inequality_at plan (get_or cycle 1 0))) some_comparisons
@@ -137,14 +136,14 @@ module _ (schema : List Table) (query : Query) (entry : Entry) (table : Table) (
   -- the law that accepted steps are right
   abbrev pub CertifiedHolds : Type 0
   CertifiedHolds = (schema : List Table) (query : Query) (table : Table) (conjuncts : List Conjunct) → IsFirstForm schema query table conjuncts →
-      (question : Question) (steps : List Step) → accepts schema (counter_sentence query question) steps ≡ true → HoldsAlways schema query question
+      (steps : List Step) → accepts schema (empty_counter query) steps ≡ true → HoldsAlways schema query Empty Null
 
   pub certified : (query_number : ℕ) (cycle : List ℕ) (cert : Cert) → CertifiedHolds →
       IsNegativeCycle (edges_of plan) cycle → IsSimple (edges_of plan) cycle → cert.query ≡ query_number → cert.question ≡ 1 → cert.value ≡ Null →
-      cert.steps ≡ opening_steps comparisons ++ step.Sum (in_order (inequality_at plan (get_or cycle 0 0)) (inequality_at plan (get_or cycle 1 0))) ∷ [] → IsCertified schema query query_number 1 Empty cert
+      cert.steps ≡ opening_steps comparisons ++ step.Sum (in_order (inequality_at plan (get_or cycle 0 0)) (inequality_at plan (get_or cycle 1 0))) ∷ [] → IsCertified schema query query_number 1 cert
   certified query_number cycle cert law negative simple query_is question_is value_is steps_are =
-      let yes : accepts schema (counter_sentence query Empty) cert.steps ≡ true = rw steps_are (ring_accepted cycle negative simple) in
-      record { names_query = query_is; names_question = question_is; no_value = value_is; accepted = yes; holds = law schema query table read.conjuncts read.form Empty cert.steps yes }
+      let yes : accepts schema (empty_counter query) cert.steps ≡ true = rw steps_are (ring_accepted cycle negative simple) in
+      record { names_query = query_is; names_question = question_is; no_value = value_is; accepted = yes; holds = law schema query table read.conjuncts read.form cert.steps yes }
 
   satisfied : (values : List ℤ) → Satisfies (value_in values) (edges_of plan) → AllByRecursion (IsSatisfied values) (of_domains 0 columns) × AllByRecursion (IsSatisfied values) (of_comparisons (first_fact comparisons) (first_fact comparisons + length comparisons) comparisons)
   satisfied values all =
@@ -155,7 +154,7 @@ module _ (schema : List Table) (query : Query) (entry : Entry) (table : Table) (
   near values all = are_near values columns number_columns known_domains (satisfied values all).0
 
   pub refuted : (values : List ℤ) (row : Row) (counter : Counter) → Satisfies (value_in values) (edges_of plan) → row.values ≡ cells_of values comparisons 0 columns →
-      counter.database.tables ≡ one_row_in (length schema) entry.table row → counter.points ≡ One (record { levels = (0 ∷ []) ∷ [] }) → IsRefuted schema query Empty counter
+      counter.database.tables ≡ one_row_in (length schema) entry.table row → counter.points ≡ One (record { levels = (0 ∷ []) ∷ [] }) → IsRefuted schema query counter
   refuted values row counter all cells tables points =
       let parts = satisfied values all in
       let meet : values_meet table.columns row.values ≡ true = rw (cells, sym read.columns_are) (cells_meet values comparisons 0 columns number_columns parts.0) in

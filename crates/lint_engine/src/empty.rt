@@ -1,6 +1,5 @@
 //! E1, "the answer is empty".
 ghost use Rattle.std.specs.Prelude.{◌≡◌, List, IfOk};
-ghost use Rattle.lint_core.specs.declared.query.Question.{Question};
 ghost use Rattle.lint_core.specs.declared.schema.Table.{Table};
 ghost use Rattle.lint_core.specs.Answer.{IsRightAnswer};
 ghost use Rattle.lint_core.specs.FirstForm.{Conjunct, IsFirstForm};
@@ -26,7 +25,7 @@ pub fn judge_empty(
     number: u32,
 ) -> Result<Answer, NoMemory>
     requires { (table : Table) × (conjuncts : List Conjunct) × IsFirstForm schema.now query.now table conjuncts }
-    ensures { IfOk result (λ answer. IsRightAnswer schema.now query.now number 1 Question.Empty answer) }
+    ensures { IfOk result (λ answer. IsRightAnswer schema.now query.now number 1 answer) }
 {
     certified_question_holds();
     let comparisons = read_comparisons(alloc, &query.block.cond)?;

@@ -36,7 +36,7 @@ right_more schema number text (first ∷ runs) run right last =
 
 -- what is answered of a query that is judged
 pub judged_run : (schema : List Table) (number : ℕ) (query : Query) (questions : List Question) (answers : List Answer) (answer : Answer) →
-    is_first_form schema query ≡ true → questions ≡ Empty ∷ [] → answers ≡ answer ∷ [] → IsRightAnswer schema query number 1 Empty answer →
+    is_first_form schema query ≡ true → questions ≡ Empty ∷ [] → answers ≡ answer ∷ [] → IsRightAnswer schema query number 1 answer →
     IsAnsweredRun schema number query (Answered query questions answers)
 judged_run schema number query questions answers answer first asked told right = (refl, judged answer first asked told right)
 

@@ -20,7 +20,7 @@ pub data IsAnswered (schema : List Table) (number : ℕ) (query : Query) (questi
       is_first_form schema query ≡ true →
       questions ≡ Empty ∷ [] →
       answers ≡ answer ∷ [] →
-      IsRightAnswer schema query number 1 Empty answer →
+      IsRightAnswer schema query number 1 answer →
       IsAnswered schema number query questions answers
   unjudged : is_first_form schema query ≡ false → questions ≡ [] → answers ≡ [] → IsAnswered schema number query questions answers
 

@@ -11,7 +11,7 @@ use Rattle.lint_core.specs.declared.database.Value.{Value}
 use Rattle.lint_core.specs.declared.database.Value.TheVariants as value
 use Rattle.lint_core.specs.declared.database.Row.{Row}
 use Rattle.lint_core.specs.declared.database.Points.{Points}
-use Rattle.lint_core.specs.declared.database.Points.TheVariants.{One}
+use Rattle.lint_core.specs.declared.database.Points.TheVariants.{One, Two, Without}
 use Rattle.lint_core.specs.declared.database.Counter.{Counter}
 use Rattle.lint_core.specs.declared.certificate.Step.{Step}
 use Rattle.lint_core.specs.declared.certificate.Step.TheVariants as step
@@ -124,6 +124,8 @@ places_text (level ∷ levels) = joined (codes "/") level_text (level ∷ levels
 
 unfoldable pub points_text : Points → List ℕ
 points_text (One binding) = places_text binding.levels
+points_text (Two one two) = places_text one.levels ++ codes " and " ++ places_text two.levels
+points_text (Without binding) = places_text binding.levels ++ codes " with no row"
 
 unfoldable pub at_line : Points → List ℕ
 at_line points = codes "    at " ++ points_text points ++ codes "\n"
@@ -144,9 +146,10 @@ unfoldable pub answer_text : List Table → Answer → List ℕ
 answer_text schema (Always cert) = always_text cert.steps
 answer_text schema (NotAlways counters) = not_always_text schema counters
 
--- E1 stands at the query
+-- E1 stands at the query; no other question is asked so far
 unfoldable pub question_text : Query → Question → List ℕ
 question_text query Empty = codes "E1 at " ++ span_text query.block.span
+question_text query other = []
 
 -- the number, the question and its place
 unfoldable pub asked_text : Query → ℕ → Question → List ℕ

@@ -344,6 +344,15 @@ fn push_points(out: &mut String, points: &Points) -> Result<(), AllocError>
 {
     match points {
         Points::One(binding) => push_levels(out, binding.levels.as_slice()),
+        Points::Two(one, two) => {
+            push_levels(out, one.levels.as_slice())?;
+            push_text(out, " and ")?;
+            push_levels(out, two.levels.as_slice())
+        }
+        Points::Without(binding) => {
+            push_levels(out, binding.levels.as_slice())?;
+            push_text(out, " with no row")
+        }
     }
 }
 
@@ -414,6 +423,7 @@ fn push_question(out: &mut String, query: &Query, question: Question) -> Result<
             push_text(out, "E1 at ")?;
             push_span(out, query.block.span)
         }
+        _ => Ok(()),
     }
 }
 
