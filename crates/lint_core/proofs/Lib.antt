@@ -2,6 +2,7 @@ mod Lists
 mod Ring
 mod Inside
 mod Named
+mod NamedEntries
 mod Holds
 mod Realized
 pub mod Conditions
