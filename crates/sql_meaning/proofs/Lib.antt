@@ -1,3 +1,8 @@
+mod Gathered
+mod Standing
+mod Steps
 mod TableSizes
+mod Truths
 mod ViolationsFound
 mod ViolationsMet
+mod Weights

@@ -7,9 +7,12 @@
 #![tactic(auto)]
 
 mod database_meets;
+mod evaluation;
+mod levels;
 mod stop;
-mod stub;
+mod value;
 mod violation;
 
 pub use database_meets::{meets, violations_are_failures};
+pub use evaluation::truth;
 pub use stop::TruthStop;

@@ -2,6 +2,7 @@
 ghost use Rattle.std.specs.Prelude.{◌≡◌, true, false, not, ◌∷◌, [], length, IfSome, IfNone, IfOk, slice_get};
 ghost use Rattle.std.specs.List.{list_all, list_any, filter, zip};
 ghost use Rattle.lint_core.specs.Comparison.{is_same_text, are_equal, is_null};
+ghost use Rattle.lint_core.specs.Condition.{is_false_at};
 ghost use Rattle.lint_core.specs.Database.{rows_of, places_of};
 ghost use Rattle.lint_core.specs.DatabaseFits.{has_few_rows};
 ghost use Rattle.lint_core.specs.Domain.{is_in_domain};
@@ -9,9 +10,11 @@ ghost use Rattle.lint_core.specs.Meets.{value_in, agree};
 ghost use Rattle.lint_core.specs.declared.database.Value.TheVariants.{Null};
 ghost use Rattle.sql_meaning.specs.Violations.{place, row_numbers, is_twin, refers_to_nothing, outside, nulls, twice, false_checks, dangling};
 
-use crate::stub::evaluate_check;
-use lint_base::{NoMemory, Str};
-use lint_core::{Column, Cond, Database, Domain, ForeignKey, Key, Value, Violation};
+use crate::evaluation::evaluate;
+use crate::levels::Levels;
+use crate::stop::TruthStop;
+use lint_base::{Items, NoMemory, Str};
+use lint_core::{Column, Cond, Database, Domain, ForeignKey, Key, Truth, Value, Violation};
 use std::alloc::Global;
 
 /// A row of the database: its table, and its place in it.
@@ -235,6 +238,37 @@ pub(crate) fn first_twice(
     None
 }
 
+fn alone(alloc: Global, number: u32) -> Result<Items<u32>, NoMemory>
+    ensures { IfOk result (λ list. list ≡ number ∷ []) }
+{
+    Ok(Items::from_vec(Vec::from_slice(alloc, &[number])?))
+}
+
+/// Whether a CHECK is false at a row. It has no truth where a scalar subquery gives two rows, and is then not
+/// false.
+#[tactic(auto, using(crate::proofs::Standing::tables_given, crate::proofs::Standing::binding_given))]
+fn is_false_at(
+    alloc: Global,
+    database: &Database,
+    check: &Cond,
+    table: u32,
+    row: u32,
+) -> Result<bool, NoMemory>
+    ensures { IfOk result (λ is. is ≡ is_false_at database.now check.now ((table ∷ []) ∷ []) ((row ∷ []) ∷ [])) }
+{
+    let tables = [alone(alloc, table)?];
+    let rows = [alone(alloc, row)?];
+    let levels = Levels::Given {
+        tables: &tables,
+        rows: &rows,
+    };
+    match evaluate(alloc, database, check, &levels) {
+        Ok(truth) => Ok(truth == Truth::False),
+        Err(TruthStop::TwoRows { .. }) => Ok(false),
+        Err(TruthStop::NoMemory) => Err(NoMemory),
+    }
+}
+
 /// The first row at which a CHECK is false.
 #[tactic(auto, using(crate::proofs::ViolationsFound::violation_found, crate::proofs::ViolationsFound::row_passed))]
 pub(crate) fn first_false(
@@ -248,7 +282,7 @@ pub(crate) fn first_false(
     ensures { IfOk result (λ found. found ≡ slice_get (false_checks database.now table number check.now) 0) }
 {
     for row in 0..row_count(database, table) {
-        if evaluate_check(alloc, database, check, table, row)? {
+        if is_false_at(alloc, database, check, table, row)? {
             return Ok(Some(Violation::Check {
                 table,
                 check: number,

@@ -11,4 +11,4 @@ returns-then-branch c =
     let low : c.loop-row.row < length (rows_of db c.args.table) = omega arith in
     sym (violation_found (λ row. is_false_at db c.args.check.now ((c.args.table ∷ []) ∷ []) ((row ∷ []) ∷ []))
     (λ row. Check c.args.table c.args.number row) c.loop-row.row (length (rows_of db c.args.table)) c.loop-row.invariant
-    (sym c.in_ok-evaluate_check.ensures ∙ c.if-branch.true) low)
+    (sym c.in_ok-is_false_at.ensures ∙ c.if-branch.true) low)
