@@ -1,7 +1,10 @@
 mod Gathered
 mod Standing
 mod Steps
+mod TableSizes
 mod Truths
+mod ViolationsFound
+mod ViolationsMet
 mod Weights
 mod ReplacedParts
 mod Reached

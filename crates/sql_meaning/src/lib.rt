@@ -7,16 +7,19 @@
 #![tactic(auto)]
 
 mod conjunction;
+mod database_meets;
 mod evaluation;
 mod levels;
 mod replacing;
 mod stop;
 mod subqueries;
 mod value;
+mod violation;
 #[cfg(test)]
 mod walk_tests;
 
 pub use conjunction::conjuncts;
+pub use database_meets::{meets, violations_are_failures};
 pub use evaluation::truth;
 pub use replacing::replaced;
 pub use stop::TruthStop;
