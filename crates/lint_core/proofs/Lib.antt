@@ -14,4 +14,6 @@ mod Levels
 mod Fitting
 mod PlainWords
 mod FirstForms
+mod MeaningLaws
+mod MeaningLawsSubqueries
 mod Examples

@@ -25,4 +25,6 @@ pub mod Formula
 pub mod Translation
 pub mod Certificate
 pub mod Answer
+pub mod Connectives
+pub mod SubqueryValues
 pub mod Examples

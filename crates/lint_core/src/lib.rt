@@ -25,6 +25,7 @@ mod first_form;
 mod fits;
 mod formula;
 mod laws;
+mod meaning_laws;
 mod query;
 mod run;
 mod schema;
@@ -37,6 +38,10 @@ pub use formula::{Atom, Formula, Side};
 pub use laws::{
     accepted_steps_refute, certified_question_holds, first_form_is_tested, formula_says_truth,
     sentence_says_failure,
+};
+pub use meaning_laws::{
+    connectives_are_least_and_greatest, exists_is_never_unknown, in_is_a_disjunction,
+    not_in_with_null_is_never_true,
 };
 pub use query::{Item, Query, Question};
 pub use run::{Answer, QueryResult, QueryRun, Run};
