@@ -16,4 +16,5 @@ mod PlainWords
 mod FirstForms
 mod MeaningLaws
 mod MeaningLawsSubqueries
+mod MeaningLawsDistinct
 mod Examples

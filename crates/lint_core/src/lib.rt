@@ -40,8 +40,8 @@ pub use laws::{
     sentence_says_failure,
 };
 pub use meaning_laws::{
-    connectives_are_least_and_greatest, exists_is_never_unknown, in_is_a_disjunction,
-    not_in_with_null_is_never_true,
+    connectives_are_least_and_greatest, distinct_keeps_one_of_each, exists_is_never_unknown,
+    in_is_a_disjunction, not_in_with_null_is_never_true,
 };
 pub use query::{Item, Query, Question};
 pub use run::{Answer, QueryResult, QueryRun, Run};

@@ -1,7 +1,9 @@
 //! The laws of what conditions and answers mean. The functions do nothing: each contract is a law about
 //! the definitions in `specs/`.
-ghost use Rattle.std.specs.Prelude.{Ok, ◌≡◌, ◌≢◌, ℕ, true, false, List, map};
-ghost use Rattle.std.specs.List.{list_all, list_any};
+ghost use Rattle.std.specs.Prelude.{Ok, ◌≡◌, ◌≢◌, ℕ, true, false, List, map, Some, None};
+ghost use Rattle.std.specs.Bool.{Decides};
+ghost use Rattle.std.specs.Cmp.{IsEquivalence};
+ghost use Rattle.std.specs.List.{list_all, list_any, IsDistinct};
 ghost use Rattle.lint_base.specs.declared.place.Span.{Span as Place};
 ghost use Rattle.lint_tables.specs.declared.op.Op.TheVariants.{Eq, Ne};
 ghost use Rattle.lint_core.specs.declared.condition.Block.{Block as Subquery};
@@ -12,9 +14,11 @@ ghost use Rattle.lint_core.specs.declared.database.Database.{Database as Data};
 ghost use Rattle.lint_core.specs.declared.database.Truth.{Truth};
 ghost use Rattle.lint_core.specs.declared.database.Truth.TheVariants.{Unknown, True};
 ghost use Rattle.lint_core.specs.declared.database.Value.{Value};
-ghost use Rattle.lint_core.specs.Comparison.{compare, is_null, are_equal};
+ghost use Rattle.lint_core.specs.declared.query.Query.{Query};
+ghost use Rattle.lint_core.specs.Comparison.{compare, is_null, are_equal, are_not_distinct};
 ghost use Rattle.lint_core.specs.Condition.{truth, term_value, in_truth};
 ghost use Rattle.lint_core.specs.Connectives.{IsLeast, IsGreatest, HaveTruths, disjunction};
+ghost use Rattle.lint_core.specs.QueryAnswer.{is_same_row, all_rows, answer};
 ghost use Rattle.lint_core.specs.SubqueryValues.{HasInnerTruths, Selects};
 ghost use Rattle.lint_core.specs.Truth.{is_true, not_of, truth_of};
 
@@ -89,4 +93,22 @@ pub fn in_is_a_disjunction()
         → truth db (And (map (λ item. Compare Ne left item.0 item.1) items)) tables binding
         ≡ Ok (not_of (in_truth (term_value db tables binding left) (map (λ item. term_value db tables binding item.0) items))) }
     ensures decided { (left : Value) (values : List Value) → in_truth left values ≡ disjunction (map (compare Eq left) values) }
+{}
+
+/// Two values are not distinct exactly where they are one, and so of rows. With DISTINCT no row of the
+/// answer is not distinct from one after it, and a row stands in the answer exactly where it stands in the
+/// answer without DISTINCT, up to 'not distinct'; there is an answer where there is one without.
+pub fn distinct_keeps_one_of_each()
+    ensures values { (a b : Value) → Decides (are_not_distinct a b) (a ≡ b) }
+    ensures values_equivalence { IsEquivalence are_not_distinct }
+    ensures rows { (row other : List Value) → Decides (is_same_row row other) (row ≡ other) }
+    ensures with_distinct { (db : Data) (query : Query) (distinct : Place) → query.distinct ≡ Some distinct
+        → (all : List (List Value)) → all_rows db query ≡ Ok all
+        → (rows : List (List Value)) × (answer db query ≡ Ok rows) × IsDistinct is_same_row rows
+        × ((row : List Value) → list_any (is_same_row row) rows ≡ list_any (is_same_row row) all) }
+    ensures only_with_distinct { (db : Data) (query : Query) (distinct : Place) → query.distinct ≡ Some distinct
+        → (rows : List (List Value)) → answer db query ≡ Ok rows
+        → (all : List (List Value)) × (all_rows db query ≡ Ok all) × IsDistinct is_same_row rows
+        × ((row : List Value) → list_any (is_same_row row) rows ≡ list_any (is_same_row row) all) }
+    ensures without { (db : Data) (query : Query) → query.distinct ≡ None → answer db query ≡ all_rows db query }
 {}
