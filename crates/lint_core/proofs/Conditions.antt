@@ -1,7 +1,7 @@
 -- What a condition of each kind means, by its parts.
-use Rattle.std.proofs.Common.{◌≡◌, ◌∙◌, ap, ℕ, Bool, List, map}
+use Rattle.std.proofs.Common.{◌≡◌, ◌∙◌, ap, refl, ℕ, Bool, true, false, List, [], ◌∷◌, map}
 use Rattle.std.proofs.lemmas.Simd.{map-map}
-use Rattle.std.specs.Prelude.{Ok}
+use Rattle.std.specs.Prelude.{Ok, Err, ◌&&◌, if◌then◌else◌}
 use Rattle.lint_base.specs.declared.place.Span.{Span}
 use Rattle.lint_tables.specs.declared.op.Op.{Op}
 use Rattle.lint_core.specs.declared.condition.Entry.{Entry}
@@ -10,12 +10,14 @@ use Rattle.lint_core.specs.declared.condition.Cond.{Cond, out-Cond, fold_out-Con
 use Rattle.lint_core.specs.declared.condition.Cond.TheVariants as c
 use Rattle.lint_core.specs.declared.condition.Cond.TheOpen.{Cond-F}
 use Rattle.lint_core.specs.declared.condition.Block.{Block, fold-Block, fold_out-Block}
+use Rattle.lint_core.specs.declared.database.Truth.{Truth}
 use Rattle.lint_core.specs.declared.database.Truth.TheVariants.{False, True}
 use Rattle.lint_core.specs.declared.database.Database.{Database}
-use Rattle.lint_core.specs.Condition.{truth, Meaning, BlockMeaning, cond_step, block_step, inner_bindings, term_value, selected, exists_truth, in_truth, items_at, scalar_value}
-use Rattle.lint_core.specs.Truth.{truth_of, not_of, negated_if, and_of, or_of}
+use Rattle.lint_core.specs.Condition.{truth, has_truth, Meaning, BlockMeaning, cond_step, block_step, inner_bindings, term_value, selected, exists_truth, in_truth, items_at, scalar_value}
+use Rattle.lint_core.specs.Truth.{is_true, truth_of, not_of, negated_if, and_of, or_of}
 use Rattle.lint_core.specs.Comparison.{compare, is_null}
-use Rattle.lint_core.specs.Evaluation.{and_then, map_ok, all_ok}
+use Rattle.lint_core.specs.Evaluation.{Evaluated, and_then, map_ok, all_ok, all_hold}
+use Rattle.lint_core.specs.Question.{is_known_true}
 
 module _ (db : Database) where
   -- the meaning of a block
@@ -78,3 +80,14 @@ module _ (db : Database) where
       truth db (c.Scalar op left block item span) tables binding ≡ and_then (λ inners. map_ok (compare op (term_value db tables binding left)) (scalar_value (block_truth block).place (items_at db item inners))) (selected ((block_truth block).bindings tables binding))
   truth_scalar op left block item span tables binding =
       ap (λ m. m tables binding) (truth_out (c.Scalar op left block item span) ∙ ap layer_truth (c.outs-Scalar op left block item span))
+
+-- E1 is refuted at a binding of the entries at which the condition is true
+pub known : (bound : Bool) (truth : Evaluated Truth) →
+    is_known_true (if bound then all_hold (map_ok is_true truth ∷ []) else Ok false) ≡ (bound && has_truth is_true truth)
+known false truth = refl
+known true (Err place) = refl
+known true (Ok truth) = at_truth (is_true truth)
+  where
+    at_truth : (b : Bool) → (b && true) ≡ b
+    at_truth true = refl
+    at_truth false = refl

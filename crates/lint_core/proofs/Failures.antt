@@ -3,7 +3,7 @@ use Rattle.std.proofs.Common.{◌≡◌, Bool, ◌∙◌, sym, ap, refl, subst, 
 use Rattle.std.proofs.lemmas.Bool.{and_parts, and_from}
 use Rattle.std.proofs.lemmas.List.{append-nil}
 use Rattle.std.proofs.lemmas.List.Elements.{recursion_from_All}
-use Rattle.std.specs.Prelude.{nat_lt, if◌then◌else◌, ◌&&◌, Ok, Err}
+use Rattle.std.specs.Prelude.{nat_lt}
 use Rattle.std.specs.List.{AllByRecursion}
 use Rattle.lint_core.specs.declared.condition.Cond.{Cond}
 use Rattle.lint_core.specs.declared.condition.Entry.{Entry}
@@ -16,20 +16,18 @@ use Rattle.lint_core.specs.declared.database.Points.TheVariants.{One, Two, Witho
 use Rattle.lint_core.specs.declared.query.Query.{Query}
 use Rattle.lint_core.specs.declared.query.Question.TheVariants.{Empty}
 use Rattle.lint_core.specs.declared.schema.Table.{Table}
-use Rattle.lint_core.specs.declared.database.Truth.{Truth}
 use Rattle.lint_core.specs.declared.database.Value.TheVariants.{Null}
-use Rattle.lint_core.specs.Condition.{is_true_at, has_truth}
-use Rattle.lint_core.specs.Evaluation.{Evaluated, map_ok, all_hold}
+use Rattle.lint_core.specs.Condition.{is_true_at}
 use Rattle.lint_core.specs.Fits.{main_tables}
 use Rattle.lint_core.specs.Points.{are_rows, is_binding}
-use Rattle.lint_core.specs.Truth.{is_true}
 use Rattle.lint_core.specs.Database.{Place, rows_of, below}
 use Rattle.lint_core.specs.FirstForm.{Conjunct, IsFirstForm, is_one_range}
 use Rattle.lint_core.specs.Formula.{holds}
-use Rattle.lint_core.specs.Question.{where_truth, where_is_true, is_known_true, refutes}
+use Rattle.lint_core.specs.Question.{where_truth, where_is_true, refutes}
 use Rattle.lint_core.specs.Translation.{exist_rows, is_true_formula, empty_counter}
 use Rattle.lint_core.proofs.Lists.{any_map, some_below, any_below}
 use Rattle.lint_core.proofs.Holds.{holds_exists}
+use Rattle.lint_core.proofs.Conditions.{known}
 use Rattle.lint_core.proofs.Truths.{one_variable, agrees}
 
 abbrev pub at_row : ℕ → ℕ → Place
@@ -139,17 +137,6 @@ module _ (db : Database) (cond : Cond) where
   rows_found tables n agree stands =
       let found = places_found db (is_true_formula (below n ∷ []) cond) tables [] stands in
       (rows_at found.0, found.2, sym (agree found.0 found.1) ∙ found.3)
-
--- E1 is refuted at a binding of the entries at which the condition is true
-pub known : (bound : Bool) (truth : Evaluated Truth) →
-    is_known_true (if bound then all_hold (map_ok is_true truth ∷ []) else Ok false) ≡ (bound && has_truth is_true truth)
-known false truth = refl
-known true (Err place) = refl
-known true (Ok truth) = at_truth (is_true truth)
-  where
-    at_truth : (b : Bool) → (b && true) ≡ b
-    at_truth true = refl
-    at_truth false = refl
 
 abbrev entry_tables : Query → List ℕ
 entry_tables query = map (λ (e : Entry). e.table) query.block.entries

@@ -23,7 +23,6 @@ use Rattle.lint_core.specs.Evaluation.{map_ok, all_ok}
 use Rattle.lint_core.specs.Points.{is_binding}
 use Rattle.lint_core.specs.Fits.{main_tables}
 use Rattle.lint_core.specs.Question.{where_truth, refutes}
-use Rattle.lint_core.proofs.Failures.{known}
 use Rattle.lint_core.specs.declared.schema.Column.{Column}
 use Rattle.lint_core.specs.declared.schema.Table.{Table}
 use Rattle.lint_core.specs.FirstForm.{Conjunct, conjunct_cond, where_cond, IsFirstForm, is_number, is_plain_column}
@@ -33,7 +32,7 @@ use Rattle.lint_tables.specs.Operators.{is_related}
 use Rattle.lint_core.specs.Truth.{and_of}
 use Rattle.lint_core.specs.Meets.{values_meet, rows_meet, tables_meet, no_nulls, all_constraints_met}
 use Rattle.lint_core.specs.Answer.{IsRefuted}
-use Rattle.lint_core.proofs.Conditions.{truth_compare, truth_and}
+use Rattle.lint_core.proofs.Conditions.{truth_compare, truth_and, known}
 use Rattle.lint_engine.specs.declared.comparison.Comparison.{Comparison}
 use Rattle.lint_engine.specs.Plan.{is_named, number_of, cells_of, one_row_in}
 use Rattle.lint_engine.proofs.Reading.{comparison_of_conjunct, comparisons_of}
