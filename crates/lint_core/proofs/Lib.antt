@@ -5,6 +5,8 @@ mod Named
 mod Holds
 mod Realized
 pub mod Conditions
+pub mod Described
+pub mod Parted
 mod Edges
 mod Steps
 mod Comparisons
