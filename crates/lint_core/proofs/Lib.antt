@@ -20,3 +20,4 @@ mod MeaningLaws
 mod MeaningLawsSubqueries
 mod MeaningLawsDistinct
 mod Examples
+mod QuestionExamples

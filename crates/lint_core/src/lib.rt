@@ -30,6 +30,7 @@ mod query;
 mod run;
 mod schema;
 mod worked;
+mod worked_questions;
 
 pub use certificate::{Cert, Step, SumEdge};
 pub use condition::{Block, Cond, Entry, Term};
@@ -47,3 +48,4 @@ pub use query::{Item, Query, Question};
 pub use run::{Answer, QueryResult, QueryRun, Run};
 pub use schema::{Column, Domain, ForeignKey, Key, Kind, Schema, Table, Unit};
 pub use worked::{worked_constraints, worked_truths};
+pub use worked_questions::{worked_asking, worked_refuting};
