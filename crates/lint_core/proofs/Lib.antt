@@ -19,5 +19,6 @@ mod FirstForms
 mod MeaningLaws
 mod MeaningLawsSubqueries
 mod MeaningLawsDistinct
+mod MeaningLawsRows
 mod Examples
 mod QuestionExamples

@@ -27,4 +27,5 @@ pub mod Certificate
 pub mod Answer
 pub mod Connectives
 pub mod SubqueryValues
+pub mod SameRows
 pub mod Examples

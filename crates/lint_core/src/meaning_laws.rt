@@ -19,6 +19,7 @@ ghost use Rattle.lint_core.specs.Comparison.{compare, is_null, are_equal, are_no
 ghost use Rattle.lint_core.specs.Condition.{truth, term_value, in_truth};
 ghost use Rattle.lint_core.specs.Connectives.{IsLeast, IsGreatest, HaveTruths, disjunction};
 ghost use Rattle.lint_core.specs.QueryAnswer.{is_same_row, all_rows, answer};
+ghost use Rattle.lint_core.specs.SameRows.{HaveEqualRows, HaveSameTables, tables_named};
 ghost use Rattle.lint_core.specs.SubqueryValues.{HasInnerTruths, Selects};
 ghost use Rattle.lint_core.specs.Truth.{is_true, not_of, truth_of};
 
@@ -111,4 +112,17 @@ pub fn distinct_keeps_one_of_each()
         → (all : List (List Value)) × (all_rows db query ≡ Ok all) × IsDistinct is_same_row rows
         × ((row : List Value) → list_any (is_same_row row) rows ≡ list_any (is_same_row row) all) }
     ensures without { (db : Data) (query : Query) → query.distinct ≡ None → answer db query ≡ all_rows db query }
+{}
+
+/// A condition has the same truth, or lack of one, at two bindings of the same tables that name rows of
+/// equal values, whatever places these are; and in two databases in which the tables in its subqueries'
+/// FROM lists have the same rows, whatever other tables there are.
+pub fn truth_depends_on_rows_alone()
+    ensures at_other_places { (db : Data) (cond : Condition) (tables binding others : List (List ℕ))
+        → HaveEqualRows db db tables binding others
+        → truth db cond tables binding ≡ truth db cond tables others }
+    ensures in_another_database { (db other : Data) (cond : Condition) (tables binding others : List (List ℕ))
+        → HaveSameTables db other (tables_named cond)
+        → HaveEqualRows db other tables binding others
+        → truth db cond tables binding ≡ truth other cond tables others }
 {}
