@@ -52,7 +52,7 @@ pub use laws::{
 };
 pub use meaning_laws::{
     connectives_are_least_and_greatest, distinct_keeps_one_of_each, exists_is_never_unknown,
-    in_is_a_disjunction, not_in_with_null_is_never_true,
+    in_is_a_disjunction, not_in_with_null_is_never_true, truth_depends_on_rows_alone,
 };
 pub use query::{Item, Query, Question};
 pub use run::{Answer, QueryResult, QueryRun, Run};
