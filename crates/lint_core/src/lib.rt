@@ -2,19 +2,21 @@
 //! definitions of what they mean.
 //!
 //! The layer above may use every public type, `Schema::new`, `Query::fits`, `Query::is_first_form`,
-//! `Database::fits`, `Question::fits`, `Cond::names`, `Cond::has_scalar` and the copies. Of `specs/` a reader must believe `Schema` and `Fits` (which schemas and queries there
-//! are), `Domain`, `Database`, `Meets`, `Truth`, `Comparison`, `Condition` and `Question` (what SQL
-//! means), `DatabaseFits` (which databases there are), `Asked` with `Parts`, `Conjuncts`, `Predicates`,
-//! `Subqueries` and `Naming` (which questions are asked), `FirstForm` and `PlainWord` (which queries are judged so far), `Formula`, `Translation` and
-//! `Certificate` (what a certificate is), and `Answer` (when an answer is right). The laws that join them are
-//! contracts of functions that do nothing: `first_form_is_tested` (the test of the first form says yes
-//! exactly of these queries), `formula_says_truth` (the formula of a WHERE holds exactly where it is
-//! true), `sentence_says_failure` (the sentence of a question holds exactly where some points refute
-//! it), `accepted_steps_refute` (a sentence that accepted steps refute holds in no database of the
-//! schema), and `certified_question_holds`, which follows from these; and `asked_questions_are_listed`
-//! (the list of a query's questions has exactly those that are asked of it). `accepted_steps_refute` is about
-//! every schema and sentence; the laws about queries are about those of the first form.
-//! `worked_truths` and `worked_constraints` show the meaning by small examples (`Examples`).
+//! `Database::fits`, `Question::fits`, `Cond::names`, `Cond::has_scalar` and the copies. Of `specs/` a
+//! reader must believe `Schema` and `Fits` (which schemas and queries there are), `Domain`, `Database`,
+//! `Meets`, `Truth`, `Comparison`, `Condition` and `Question` (what SQL means), `DatabaseFits` (which
+//! databases there are), `Asked` with `Parts`, `Conjuncts`, `Predicates`, `Subqueries` and `Naming`
+//! (which questions are asked), `FirstForm` and `PlainWord` (which queries are judged so far),
+//! `Formula`, `Translation` and `Certificate` (what a certificate is), and `Answer` (when an answer is
+//! right). The laws that join them are contracts of functions that do nothing: `first_form_is_tested`
+//! (the test of the first form says yes exactly of these queries), `formula_says_truth` (the formula of
+//! a WHERE holds exactly where it is true), `sentence_says_failure` (the sentence of a question holds
+//! exactly where some points refute it), `accepted_steps_refute` (a sentence that accepted steps refute
+//! holds in no database of the schema), and `certified_question_holds`, which follows from these; and
+//! `asked_questions_are_listed` (the list of a query's questions has exactly those that are asked of
+//! it). `accepted_steps_refute` is about every schema and sentence, and `asked_questions_are_listed`
+//! about every query; the others are about queries of the first form. `worked_truths` and
+//! `worked_constraints` show the meaning by small examples (`Examples`).
 #![tactic(auto)]
 
 mod asked;
