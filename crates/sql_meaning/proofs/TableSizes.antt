@@ -1,13 +1,8 @@
 -- The tables of a schema have few columns, keys, CHECKs and foreign keys.
-use Rattle.std.proofs.Common.{◌≡◌, ◌∙◌, sym, ap, subst, ℕ, zero, suc, ◌+◌, ◌<◌, ◌≤◌, ◌^◌, Bool, true, ◌&&◌, List, [], ◌∷◌, length, get_or, nat_le, arith, leb-true}
+use Rattle.std.proofs.Common.{◌≡◌, sym, subst, ℕ, zero, suc, ◌+◌, ◌<◌, ◌^◌, Bool, true, ◌&&◌, List, [], ◌∷◌, length, get_or, nat_le, arith, leb-true}
 use Rattle.std.proofs.lemmas.Bool.{and_parts}
-use Rattle.std.specs.List.{list_all}
-use Rattle.lint_core.specs.declared.condition.Cond.{Cond}
-use Rattle.lint_core.specs.declared.schema.Column.{Column}
-use Rattle.lint_core.specs.declared.schema.ForeignKey.{ForeignKey}
-use Rattle.lint_core.specs.declared.schema.Key.{Key}
 use Rattle.lint_core.specs.declared.schema.Table.{Table}
-use Rattle.lint_core.specs.Schema.{are_columns, are_keys, are_checks, are_foreign_keys, is_domain, refers_to, is_table, are_tables, is_schema}
+use Rattle.lint_core.specs.Schema.{are_columns, are_keys, are_checks, are_foreign_keys, is_table, are_tables, is_schema}
 
 pub record Small (table : Table) : Type 0 where
   pub columns : length table.columns < 2 ^ 32

@@ -1,6 +1,6 @@
 -- What loops over rows and over numbered parts have found so far, and what is then the first of all.
-use Rattle.std.proofs.Common.{◌≡◌, ◌∙◌, sym, ap, refl, subst, ℕ, zero, suc, ◌+◌, ◌<◌, add-one, Bool, true, false, ◌&&◌, ◌||◌, cond, List, [], ◌∷◌, ◌++◌, length, map, drop, get_or, arith, append-nil, append_assoc, inl, inr, ◌⊎◌}
-use Rattle.std.proofs.lemmas.Bool.{cases_lt, or_left, or_right, or_from}
+use Rattle.std.proofs.Common.{◌≡◌, ◌∙◌, sym, ap, refl, ℕ, zero, suc, ◌+◌, ◌<◌, add-one, Bool, true, false, ◌&&◌, ◌||◌, cond, List, [], ◌∷◌, ◌++◌, length, map, drop, get_or, arith, append_assoc, inl, inr}
+use Rattle.std.proofs.lemmas.Bool.{cases_lt, or_left, or_right}
 use Rattle.std.proofs.Math.Seq.{drop-cons}
 use Rattle.std.proofs.lemmas.Bool.Decides.{nat_tests}
 use Rattle.std.proofs.lemmas.List.{map-append}
@@ -46,9 +46,6 @@ module _ {A : Type 0} where
   passes_first : (test : A → Bool) (x : A) (xs : List A) → test x ≡ true → filter test (x ∷ xs) ≡ x ∷ filter test xs
   passes_first test x xs passes = ap (λ b. cond b (x ∷ filter test xs) (filter test xs)) passes
 
-  fails_alone : (test : A → Bool) (x : A) → test x ≡ false → filter test (x ∷ []) ≡ []
-  fails_alone test x fails = ap (λ b. cond b (x ∷ []) []) fails
-
   pub first_map : {B : Type 0} (f : A → B) (xs : List A) (x : A) → slice_get xs 0 ≡ Some x → slice_get (map f xs) 0 ≡ Some (f x)
   first_map f [] x at = cc
   first_map f (x' ∷ xs) x at = let same : x' ≡ x = cc in ap (λ x. Some (f x)) same
@@ -64,11 +61,6 @@ module _ (test : ℕ → Bool) where
 
   pub violation_found : (violation : ℕ → Violation) (i n : ℕ) → filter test (below i) ≡ [] → test i ≡ true → i < n → slice_get (map violation (filter test (below n))) 0 ≡ Some (violation i)
   violation_found violation i n none passes low = first_map violation (filter test (below n)) i (row_found i n none passes low)
-
-  pub row_passed : (i : ℕ) → filter test (below i) ≡ [] → test i ≡ false → filter test (below (i + 1)) ≡ []
-  row_passed i none fails =
-      ap (λ k. filter test (below k)) (add-one i) ∙ filter-append test (below i) (i ∷ [])
-      ∙ ap (λ xs. xs ++ filter test (i ∷ [])) none ∙ fails_alone test i fails
 
 module _ (found : ℕ → List Violation) where
   pub list_found : (i n : ℕ) (violation : Violation) → flat_map found (below i) ≡ [] → slice_get (found i) 0 ≡ Some violation → i < n → slice_get (flat_map found (below n)) 0 ≡ Some violation
@@ -90,12 +82,6 @@ module _ {B : Type 0} (at : ℕ → B) (test : B → Bool) where
       ap (λ numbers. list_any test (map at numbers)) parts.1 ∙ ap (list_any test) (map-append at (below i) (i ∷ parts.0))
       ∙ list_any-append test (map at (below i)) (at i ∷ map at parts.0)
       ∙ or_right (list_any test (map at (below i))) (test (at i) || list_any test (map at parts.0)) (or_left (test (at i)) (list_any test (map at parts.0)) passes)
-
-  pub some_passed : (i : ℕ) → list_any test (map at (below i)) ≡ false → test (at i) ≡ false → list_any test (map at (below (i + 1))) ≡ false
-  some_passed i none fails =
-      ap (λ k. list_any test (map at (below k))) (add-one i) ∙ ap (list_any test) (map-append at (below i) (i ∷ []))
-      ∙ list_any-append test (map at (below i)) (at i ∷ [])
-      ∙ or_from (list_any test (map at (below i))) (test (at i) || false) none (or_from (test (at i)) false fails refl)
 
 -- a loop over parts that are numbered: what is found from this one on is the whole
 module _ {A : Type 0} (found : ℕ → A → List Violation) (xs : List A) (whole : Option Violation) (i : ℕ) (x : A) where

@@ -1,12 +1,11 @@
 -- A database that fits a schema meets it exactly where it violates nothing.
-use Rattle.std.proofs.Common.{◌≡◌, ◌∙◌, zero-add, sym, ap, refl, subst, ℕ, zero, suc, ◌+◌, ◌<◌, Bool, true, false, not, ◌&&◌, ◌||◌, List, [], ◌∷◌, ◌++◌, length, map, arith, inl, inr, ◌⊎◌, if◌then◌else◌}
-use Rattle.std.proofs.lemmas.Bool.{false≢true, ne_eqb, and_parts, and_from, cases_lt, cases_order, eq-eqb, lt-ltb, ltb-true, eqb-true, or_left, or_right, cases_Bool}
+use Rattle.std.proofs.Common.{◌≡◌, ◌∙◌, zero-add, sym, ap, refl, ℕ, zero, suc, ◌+◌, ◌<◌, Bool, true, false, not, ◌&&◌, ◌||◌, List, [], ◌∷◌, ◌++◌, length, map, arith, inl, inr, if◌then◌else◌}
+use Rattle.std.proofs.lemmas.Bool.{false≢true, ne_eqb, and_parts, and_from, cases_lt, cases_order, eq-eqb, lt-ltb, ltb-true, or_left, or_right, cases_Bool}
 use Rattle.std.proofs.lemmas.Bool.Decides.{nat_tests}
 use Rattle.std.proofs.lemmas.Cmp.{int_eq_equiv, nat_list_eq_equiv}
 use Rattle.std.proofs.lemmas.List.{map-append}
 use Rattle.std.proofs.lemmas.List.Folds.{list_all-append, list_all-map}
-use Rattle.std.specs.Prelude.{Option, Some, None, slice_get, is_none, is_some, unwrap_or, option_and_then, nat_lt, nat_eq}
-use Rattle.std.specs.Cmp.Lexicographic.{pointwise}
+use Rattle.std.specs.Prelude.{Option, Some, slice_get, is_none, unwrap_or, option_and_then, nat_lt, nat_eq}
 use Rattle.std.specs.List.{filter, flat_map, list_all, list_any}
 use Rattle.lint_core.specs.declared.condition.Cond.{Cond}
 use Rattle.lint_core.specs.declared.database.Database.{Database}
@@ -19,14 +18,14 @@ use Rattle.lint_core.specs.declared.schema.Column.{Column}
 use Rattle.lint_core.specs.declared.schema.ForeignKey.{ForeignKey}
 use Rattle.lint_core.specs.declared.schema.Key.{Key}
 use Rattle.lint_core.specs.declared.schema.Table.{Table}
-use Rattle.lint_core.specs.Comparison.{are_equal, is_null, is_same_text}
+use Rattle.lint_core.specs.Comparison.{are_equal, is_null}
 use Rattle.lint_core.specs.Condition.{is_false_at}
 use Rattle.lint_core.specs.Database.{Place, rows_of, places_of, below}
 use Rattle.lint_core.specs.DatabaseFits.{rows_fit, tables_fit, database_fits}
 use Rattle.lint_core.specs.Domain.{is_in_domain}
 use Rattle.lint_core.specs.Meets.{value_in, agree, values_meet, rows_meet, tables_meet, no_nulls, key_met, check_met, foreign_met, constraints_met, all_constraints_met, meets}
 use Rattle.lint_core.specs.Truth.{truth_of, is_true}
-use Rattle.sql_meaning.specs.Violations.{numbered, place, row_numbers, at_rows, outside, nulls, is_twin, twice, false_checks, refers_to_nothing, dangling, table_violations, violations, first_violation}
+use Rattle.sql_meaning.specs.Violations.{numbered, place, row_numbers, at_rows, outside, nulls, is_twin, twice, false_checks, refers_to_nothing, dangling, table_violations, first_violation}
 
 both_same : (a b : Bool) → (a ≡ true → b ≡ true) → (b ≡ true → a ≡ true) → a ≡ b
 both_same true b there back = sym (there refl)
@@ -106,11 +105,6 @@ module _ {A : Type 0} where
   numbered_all : (p : A → Bool) (i : ℕ) (xs : List A) → all_numbered (λ k x. p x) i xs ≡ list_all p xs
   numbered_all p i [] = refl
   numbered_all p i (x ∷ xs) = ap (λ b. p x && b) (numbered_all p (suc i) xs)
-
-  numbered_both : (p q : ℕ → A → Bool) (i : ℕ) (xs : List A) → all_numbered (λ k x. p k x && q k x) i xs ≡ (all_numbered p i xs && all_numbered q i xs)
-  numbered_both p q i [] = refl
-  numbered_both p q i (x ∷ xs) =
-      ap (λ b. (p i x && q i x) && b) (numbered_both p q (suc i) xs) ∙ regroup (p i x) (q i x) (all_numbered p (suc i) xs) (all_numbered q (suc i) xs)
 
 -- each part at each row, or each row's parts
 rows_first : {A R : Type 0} (test : R → ℕ → A → Bool) (rows : List R) (i : ℕ) (xs : List A) →

@@ -142,7 +142,6 @@ fn is_in_domain_at(database: &Database, domain: Domain, spot: Spot, column: u32)
 }
 
 /// The first value outside the column's domain.
-#[tactic(auto, using(crate::proofs::ViolationsFound::violation_found, crate::proofs::ViolationsFound::row_passed))]
 pub(crate) fn first_outside(
     database: &Database,
     table: u32,
@@ -165,7 +164,6 @@ pub(crate) fn first_outside(
 }
 
 /// The first NULL in a column that is NOT NULL.
-#[tactic(auto, using(crate::proofs::ViolationsFound::violation_found, crate::proofs::ViolationsFound::row_passed))]
 pub(crate) fn first_null(
     database: &Database,
     table: u32,
@@ -270,7 +268,6 @@ fn is_false_at(
 }
 
 /// The first row at which a CHECK is false.
-#[tactic(auto, using(crate::proofs::ViolationsFound::violation_found, crate::proofs::ViolationsFound::row_passed))]
 pub(crate) fn first_false(
     alloc: Global,
     database: &Database,
@@ -334,7 +331,6 @@ fn refers_to_nothing(database: &Database, table: u32, key: &ForeignKey, row: u32
 }
 
 /// The first row whose foreign key refers to no row.
-#[tactic(auto, using(crate::proofs::ViolationsFound::violation_found, crate::proofs::ViolationsFound::row_passed))]
 pub(crate) fn first_dangling(
     database: &Database,
     table: u32,

@@ -1,4 +1,3 @@
-use Rattle.std.proofs.Common.{◌≡◌}
 use Rattle.std.specs.Prelude.{slice_get}
 use Rattle.sql_meaning.specs.Violations.{numbered, dangling}
 use Rattle.sql_meaning.proofs.ViolationsFound.{part_found, part_passed}

@@ -1,4 +1,4 @@
-use Rattle.std.proofs.Common.{◌≡◌, ◌∙◌, sym}
+use Rattle.std.proofs.Common.{◌∙◌, sym}
 use Rattle.std.specs.Prelude.{slice_get}
 use Rattle.sql_meaning.specs.Violations.{numbered, false_checks}
 use Rattle.sql_meaning.proofs.ViolationsFound.{part_found, part_passed}

@@ -1,4 +1,4 @@
-use Rattle.std.proofs.Common.{◌≡◌, ◌∙◌, sym, ◌<◌, [], ◌∷◌, length, arith}
+use Rattle.std.proofs.Common.{◌∙◌, sym, ◌<◌, [], ◌∷◌, length, arith}
 use Rattle.lint_core.specs.Condition.{is_false_at}
 use Rattle.lint_core.specs.Database.{rows_of}
 use Rattle.lint_core.specs.declared.database.Violation.TheVariants.{Check}

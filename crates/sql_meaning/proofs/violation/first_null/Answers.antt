@@ -1,4 +1,4 @@
-use Rattle.std.proofs.Common.{◌≡◌, ◌∙◌, sym, ◌<◌, ◌&&◌, length, arith}
+use Rattle.std.proofs.Common.{◌∙◌, sym, ◌<◌, ◌&&◌, length, arith}
 use Rattle.std.proofs.lemmas.Bool.{and_from}
 use Rattle.lint_core.specs.Comparison.{is_null}
 use Rattle.lint_core.specs.Database.{rows_of}

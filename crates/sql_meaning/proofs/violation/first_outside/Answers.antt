@@ -1,4 +1,4 @@
-use Rattle.std.proofs.Common.{◌≡◌, ◌∙◌, sym, ap, ◌<◌, false, not, length, arith}
+use Rattle.std.proofs.Common.{◌∙◌, sym, ap, ◌<◌, not, length, arith}
 use Rattle.lint_core.specs.Database.{rows_of}
 use Rattle.lint_core.specs.Domain.{is_in_domain}
 use Rattle.lint_core.specs.Meets.{value_in}

@@ -1,4 +1,4 @@
-use Rattle.std.proofs.Common.{ℕ, ◌≡◌, ◌∙◌, sym, ap, ◌<◌, length, map, arith}
+use Rattle.std.proofs.Common.{sym, ap, ◌<◌, length, map, arith}
 use Rattle.std.specs.List.{filter}
 use Rattle.lint_core.specs.Database.{rows_of, below}
 use Rattle.lint_core.specs.declared.database.Violation.TheVariants.{Twice}

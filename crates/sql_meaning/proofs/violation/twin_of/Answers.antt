@@ -1,4 +1,4 @@
-use Rattle.std.proofs.Common.{◌≡◌, ◌∙◌, sym, ◌<◌, length, arith}
+use Rattle.std.proofs.Common.{◌∙◌, sym, ◌<◌, length, arith}
 use Rattle.lint_core.specs.Database.{rows_of}
 use Rattle.sql_meaning.specs.Violations.{is_twin}
 use Rattle.sql_meaning.proofs.ViolationsFound.{row_found}
