@@ -181,168 +181,215 @@ const X: &[Cell] = &[Number(10), Word("X"), Absent];
 const A: &[Cell] = &[Number(1), Word("A"), Absent, Absent, Absent, Number(10)];
 
 #[test]
-fn finds_violations_of_departments(rt: HostRuntime) -> Result<(), Fail> {
+fn finds_violations_of_rows(rt: HostRuntime) -> Result<(), Fail> {
     let alloc = rt.alloc();
     let Some(schema) = departments(alloc)? else {
         return Err(Fail::new("no schema"));
     };
-    let cases: [(&[&[Cell]], &[&[Cell]], Option<Violation>); 16] = [
-        (&[], &[], None),
-        // an employee of no department
-        (
-            &[],
-            &[A],
-            Some(Violation::Dangling {
-                table: 1,
-                key: 0,
-                row: 0,
-            }),
-        ),
-        // the unknown CHECK passes
-        (&[X], &[A], None),
-        (
+    // the unknown CHECK passes
+    assert_eq!(rt; found(alloc, &schema, &[X], &[A])?, None);
+    assert_eq!(rt;
+        found(
+            alloc,
+            &schema,
             &[X],
             &[
                 A,
-                &[Number(2), Word("B"), Absent, Absent, Number(5), Number(10)],
-            ],
-            None,
-        ),
-        (
+                &[Number(2), Word("B"), Absent, Absent, Number(5), Number(10)]
+            ]
+        )?,
+        None
+    );
+    assert_eq!(rt;
+        found(
+            alloc,
+            &schema,
             &[X],
             &[
                 A,
-                &[Number(2), Word("B"), Absent, Absent, Number(0), Number(10)],
-            ],
-            Some(Violation::Check {
-                table: 1,
-                check: 0,
-                row: 1,
-            }),
-        ),
-        // the CHECK stands before the foreign key
-        (
-            &[],
-            &[
-                A,
-                &[Number(2), Word("B"), Absent, Absent, Number(0), Number(10)],
-            ],
-            Some(Violation::Check {
-                table: 1,
-                check: 0,
-                row: 1,
-            }),
-        ),
-        // NULLs do not clash in a UNIQUE column
-        (&[X, &[Number(20), Word("X"), Absent]], &[A], None),
-        (
+                &[Number(2), Word("B"), Absent, Absent, Number(0), Number(10)]
+            ]
+        )?,
+        Some(Violation::Check {
+            table: 1,
+            check: 0,
+            row: 1
+        })
+    );
+    assert_eq!(rt;
+        found(alloc, &schema, &[X, &[Number(20), Absent, Absent]], &[])?,
+        Some(Violation::Null {
+            table: 0,
+            row: 1,
+            column: 1
+        })
+    );
+    assert_eq!(rt;
+        found(
+            alloc,
+            &schema,
+            &[X, &[Number(2147483648), Word("Y"), Absent]],
+            &[]
+        )?,
+        Some(Violation::Domain {
+            table: 0,
+            row: 1,
+            column: 0
+        })
+    );
+    assert_eq!(rt;
+        found(alloc, &schema, &[X, &[Number(20), Number(1), Absent]], &[])?,
+        Some(Violation::Domain {
+            table: 0,
+            row: 1,
+            column: 1
+        })
+    );
+    Ok(())
+}
+
+#[test]
+fn finds_violations_of_keys(rt: HostRuntime) -> Result<(), Fail> {
+    let alloc = rt.alloc();
+    let Some(schema) = departments(alloc)? else {
+        return Err(Fail::new("no schema"));
+    };
+    // an employee of no department
+    assert_eq!(rt;
+        found(alloc, &schema, &[], &[A])?,
+        Some(Violation::Dangling {
+            table: 1,
+            key: 0,
+            row: 0
+        })
+    );
+    // NULLs do not clash in a UNIQUE column
+    assert_eq!(rt;
+        found(alloc, &schema, &[X, &[Number(20), Word("X"), Absent]], &[A])?,
+        None
+    );
+    assert_eq!(rt;
+        found(
+            alloc,
+            &schema,
             &[
                 &[Number(10), Word("X"), Word("P")],
-                &[Number(20), Word("Y"), Word("P")],
+                &[Number(20), Word("Y"), Word("P")]
             ],
-            &[],
-            Some(Violation::Twice {
-                table: 0,
-                key: 1,
-                row: 0,
-                other: 1,
-            }),
-        ),
-        (
-            &[X, X],
-            &[],
-            Some(Violation::Twice {
-                table: 0,
-                key: 0,
-                row: 0,
-                other: 1,
-            }),
-        ),
-        // the earlier row first, not the earlier pair
-        (
+            &[]
+        )?,
+        Some(Violation::Twice {
+            table: 0,
+            key: 1,
+            row: 0,
+            other: 1
+        })
+    );
+    assert_eq!(rt;
+        found(alloc, &schema, &[X, X], &[])?,
+        Some(Violation::Twice {
+            table: 0,
+            key: 0,
+            row: 0,
+            other: 1
+        })
+    );
+    Ok(())
+}
+
+#[test]
+fn finds_the_first_violation(rt: HostRuntime) -> Result<(), Fail> {
+    let alloc = rt.alloc();
+    let Some(schema) = departments(alloc)? else {
+        return Err(Fail::new("no schema"));
+    };
+    // the earlier row first, not the earlier pair
+    assert_eq!(rt;
+        found(
+            alloc,
+            &schema,
             &[
                 X,
                 &[Number(20), Word("Y"), Absent],
                 &[Number(20), Word("Z"), Absent],
-                X,
+                X
             ],
-            &[],
-            Some(Violation::Twice {
-                table: 0,
-                key: 0,
-                row: 0,
-                other: 3,
-            }),
-        ),
-        (
-            &[X, &[Number(20), Absent, Absent]],
-            &[],
-            Some(Violation::Null {
-                table: 0,
-                row: 1,
-                column: 1,
-            }),
-        ),
-        (
-            &[X, &[Number(2147483648), Word("Y"), Absent]],
-            &[],
-            Some(Violation::Domain {
-                table: 0,
-                row: 1,
-                column: 0,
-            }),
-        ),
-        (
-            &[X, &[Number(20), Number(1), Absent]],
-            &[],
-            Some(Violation::Domain {
-                table: 0,
-                row: 1,
-                column: 1,
-            }),
-        ),
-        // values outside their domains stand before NULLs, and the earlier column before the earlier row
-        (
+            &[]
+        )?,
+        Some(Violation::Twice {
+            table: 0,
+            key: 0,
+            row: 0,
+            other: 3
+        })
+    );
+    // values outside their domains before NULLs, and the earlier column before the earlier row
+    assert_eq!(rt;
+        found(
+            alloc,
+            &schema,
             &[
                 &[Absent, Word("X"), Number(1)],
-                &[Word("Y"), Word("Y"), Absent],
+                &[Word("Y"), Word("Y"), Absent]
             ],
-            &[],
-            Some(Violation::Domain {
-                table: 0,
-                row: 1,
-                column: 0,
-            }),
-        ),
-        // the first table before the second
-        (
+            &[]
+        )?,
+        Some(Violation::Domain {
+            table: 0,
+            row: 1,
+            column: 0
+        })
+    );
+    // the first table before the second
+    assert_eq!(rt;
+        found(
+            alloc,
+            &schema,
             &[X, X],
-            &[&[Word("A"), Word("A"), Absent, Absent, Absent, Number(10)]],
-            Some(Violation::Twice {
-                table: 0,
-                key: 0,
-                row: 0,
-                other: 1,
-            }),
-        ),
-        // the key stands before the CHECK
-        (
+            &[&[Word("A"), Word("A"), Absent, Absent, Absent, Number(10)]]
+        )?,
+        Some(Violation::Twice {
+            table: 0,
+            key: 0,
+            row: 0,
+            other: 1
+        })
+    );
+    // the key before the CHECK
+    assert_eq!(rt;
+        found(
+            alloc,
+            &schema,
             &[X],
             &[
                 &[Number(2), Word("B"), Absent, Absent, Number(0), Number(10)],
-                &[Number(2), Word("B"), Absent, Absent, Number(0), Number(10)],
-            ],
-            Some(Violation::Twice {
-                table: 1,
-                key: 0,
-                row: 0,
-                other: 1,
-            }),
-        ),
-    ];
-    for (dept, emp, expected) in cases {
-        assert_eq!(rt; found(alloc, &schema, dept, emp)?, expected);
-    }
+                &[Number(2), Word("B"), Absent, Absent, Number(0), Number(10)]
+            ]
+        )?,
+        Some(Violation::Twice {
+            table: 1,
+            key: 0,
+            row: 0,
+            other: 1
+        })
+    );
+    // the CHECK before the foreign key
+    assert_eq!(rt;
+        found(
+            alloc,
+            &schema,
+            &[],
+            &[
+                A,
+                &[Number(2), Word("B"), Absent, Absent, Number(0), Number(10)]
+            ]
+        )?,
+        Some(Violation::Check {
+            table: 1,
+            check: 0,
+            row: 1
+        })
+    );
     Ok(())
 }
 
