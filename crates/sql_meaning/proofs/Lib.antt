@@ -1,4 +1,5 @@
 mod Gathered
+mod Places
 mod Standing
 mod Steps
 mod Truths

@@ -8,6 +8,7 @@
 
 mod evaluation;
 mod levels;
+mod points;
 mod stop;
 mod value;
 
