@@ -14,10 +14,16 @@
 //! it), `accepted_steps_refute` (a sentence that accepted steps refute holds in no database of the
 //! schema), and `certified_question_holds`, which follows from these. `accepted_steps_refute` is about
 //! every schema and sentence; the laws about queries are about those of the first form.
-//! `worked_truths` and `worked_constraints` show the meaning by small examples (`Examples`).
+//! `worked_truths` and `worked_constraints` show the meaning by small examples (`Examples`), and
+//! `worked_asking` and `worked_refuting` the questions. What the definitions say in the subject's own
+//! words are the laws `connectives_are_least_and_greatest`, `in_is_a_disjunction`,
+//! `not_in_with_null_is_never_true`, `exists_is_never_unknown`, `distinct_keeps_one_of_each` and
+//! `truth_depends_on_rows_alone`; their words are in `Connectives`, `SubqueryValues` and `SameRows`.
 #![tactic(auto)]
 
 mod asked;
+#[cfg(test)]
+mod asked_tests;
 mod certificate;
 mod condition;
 mod copies;
@@ -28,11 +34,13 @@ mod first_form;
 mod fits;
 mod formula;
 mod laws;
+mod meaning_laws;
 mod naming;
 mod query;
 mod run;
 mod schema;
 mod worked;
+mod worked_questions;
 
 pub use certificate::{Cert, Step, SumEdge};
 pub use condition::{Block, Cond, Entry, Term};
@@ -42,7 +50,12 @@ pub use laws::{
     accepted_steps_refute, asked_questions_are_listed, certified_question_holds,
     first_form_is_tested, formula_says_truth, sentence_says_failure,
 };
+pub use meaning_laws::{
+    connectives_are_least_and_greatest, distinct_keeps_one_of_each, exists_is_never_unknown,
+    in_is_a_disjunction, not_in_with_null_is_never_true, truth_depends_on_rows_alone,
+};
 pub use query::{Item, Query, Question};
 pub use run::{Answer, QueryResult, QueryRun, Run};
 pub use schema::{Column, Domain, ForeignKey, Key, Kind, Schema, Table, Unit};
 pub use worked::{worked_constraints, worked_truths};
+pub use worked_questions::{worked_asking, worked_refuting};

@@ -2,5 +2,11 @@ mod Gathered
 mod Places
 mod Standing
 mod Steps
+mod TableSizes
 mod Truths
+mod ViolationsFound
+mod ViolationsMet
 mod Weights
+mod ReplacedParts
+mod Reached
+mod Sought

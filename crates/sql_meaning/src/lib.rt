@@ -6,11 +6,22 @@
 //! lint_core.
 #![tactic(auto)]
 
+mod conjunction;
+mod database_meets;
 mod evaluation;
 mod levels;
 mod points;
+mod replacing;
 mod stop;
+mod subqueries;
 mod value;
+mod violation;
+#[cfg(test)]
+mod walk_tests;
 
+pub use conjunction::conjuncts;
+pub use database_meets::{meets, violations_are_failures};
 pub use evaluation::truth;
+pub use replacing::replaced;
 pub use stop::TruthStop;
+pub use subqueries::{Subquery, not_in_subquery, scalar_subquery};
