@@ -1,3 +1,4 @@
+mod Clauses
 mod Gathered
 mod Places
 mod Standing

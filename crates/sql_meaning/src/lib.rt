@@ -6,9 +6,13 @@
 //! lint_core.
 #![tactic(auto)]
 
+mod clauses;
 mod conjunction;
 mod database_meets;
 mod evaluation;
+#[cfg(test)]
+mod fail_tests;
+mod fails;
 mod levels;
 mod points;
 mod replacing;
@@ -22,6 +26,7 @@ mod walk_tests;
 pub use conjunction::conjuncts;
 pub use database_meets::{meets, violations_are_failures};
 pub use evaluation::truth;
+pub use fails::fails_at;
 pub use replacing::replaced;
 pub use stop::TruthStop;
 pub use subqueries::{Subquery, not_in_subquery, scalar_subquery};

@@ -12,14 +12,22 @@ use std::alloc::Global;
 fn front(numbers: &[u32], count: usize) -> &[u32]
     ensures { result.now ≡ take count numbers.now }
 {
-    if count < numbers.len() { &numbers[..count] } else { numbers }
+    if count < numbers.len() {
+        &numbers[..count]
+    } else {
+        numbers
+    }
 }
 
 /// All but the first so many of them.
 fn behind(numbers: &[u32], count: usize) -> &[u32]
     ensures { result.now ≡ drop count numbers.now }
 {
-    if count < numbers.len() { &numbers[count..] } else { &[] }
+    if count < numbers.len() {
+        &numbers[count..]
+    } else {
+        &[]
+    }
 }
 
 /// Whether there is one row of its table for each entry.
