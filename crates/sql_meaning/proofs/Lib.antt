@@ -1,4 +1,4 @@
-mod Clauses
+mod ClauseParts
 mod Gathered
 mod Places
 mod Standing

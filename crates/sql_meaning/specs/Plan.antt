@@ -42,7 +42,7 @@ module _ (db : Database) (query : Query) where
   abbrev pub none_fits : ℕ → Binding → List Cond → Evaluated Bool
   none_fits entry others conds =
       map_ok (λ fit. not (list_any (λ fits. fits) fit))
-      (all_ok (map (λ row. are_true_with db query entry row others conds) (below (length (rows_of db (table_of db query entry))))))
+      (all_ok (map (λ row. are_true_with db query entry others row conds) (below (length (rows_of db (table_of db query entry))))))
 
   abbrev pub at_rest : ℕ → Binding → Evaluated Bool
   at_rest entry one =
