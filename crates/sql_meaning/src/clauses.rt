@@ -1,5 +1,5 @@
 //! What the clauses of the questions are made of.
-ghost use Rattle.std.specs.Prelude.{◌≡◌, ◌∷◌, [], map, not, Ok, IfOk, slice_get};
+ghost use Rattle.std.specs.Prelude.{◌≡◌, ◌∷◌, ◌++◌, [], map, not, Ok, IfOk, slice_get};
 ghost use Rattle.std.specs.List.{filter};
 ghost use Rattle.std.specs.Option.{option_map_or};
 ghost use Rattle.lint_core.specs.declared.condition.Block.{out-Block};
@@ -23,7 +23,7 @@ use crate::points::with_row;
 use crate::stop::TruthStop;
 use crate::value::{Seen, compare, term_value};
 use lint_base::{Items, NoMemory};
-use lint_core::{Binding, Cond, Database, Item, Query, Term, Truth, Value};
+use lint_core::{Binding, Cond, Database, Entry, Item, Query, Term, Truth, Value};
 use lint_tables::Op;
 use std::alloc::Global;
 
@@ -195,6 +195,25 @@ fn all_true_in(
     Ok(all)
 }
 
+/// Alike, in the level of these entries inside others.
+fn all_true_inside(
+    alloc: Global,
+    database: &Database,
+    conds: &[&Cond],
+    entries: &[Entry],
+    rows: &[usize],
+    outer: &Levels,
+) -> Result<bool, TruthStop>
+    ensures { Gives (all_true (map (λ c. truth database.now c (tables_of_levels outer.now ++ tables_of entries.now ∷ []) (binding_of_levels outer.now ++ rows.now ∷ [])) (behind conds.now))) result }
+{
+    let levels = Levels::Inside {
+        entries,
+        rows,
+        outer: &*outer,
+    };
+    all_true_in(alloc, database, conds, &levels)
+}
+
 /// The conditions that name a main entry.
 pub(crate) fn naming<'a>(
     alloc: Global,
@@ -245,12 +264,8 @@ impl Main<'_> {
             tables: &[],
             rows: &[],
         };
-        let levels = Levels::Inside {
-            entries: self.query.block.entries.as_slice(),
-            rows: rows.as_slice(),
-            outer: &outside,
-        };
-        all_true_in(self.alloc, self.database, conds, &levels)
+        let entries = self.query.block.entries.as_slice();
+        all_true_inside(self.alloc, self.database, conds, entries, rows.as_slice(), &outside)
     }
 
     /// The table of a main entry; 0 where there is no such entry.
