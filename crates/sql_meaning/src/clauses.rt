@@ -265,7 +265,14 @@ impl Main<'_> {
             rows: &[],
         };
         let entries = self.query.block.entries.as_slice();
-        all_true_inside(self.alloc, self.database, conds, entries, rows.as_slice(), &outside)
+        all_true_inside(
+            self.alloc,
+            self.database,
+            conds,
+            entries,
+            rows.as_slice(),
+            &outside,
+        )
     }
 
     /// The table of a main entry; 0 where there is no such entry.

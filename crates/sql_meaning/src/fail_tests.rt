@@ -190,7 +190,15 @@ fn answer(
 ) -> Result<Result<bool, TruthStop>, Fail> {
     let schema = Schema::new(Items::new(alloc)).ok_or("a schema")?;
     let database = database(alloc)?;
-    Ok(fails_at(alloc, &schema, &database, query, &question, &Value::Int(1), points))
+    Ok(fails_at(
+        alloc,
+        &schema,
+        &database,
+        query,
+        &question,
+        &Value::Int(1),
+        points,
+    ))
 }
 
 fn at_one(
@@ -199,7 +207,12 @@ fn at_one(
     question: Question,
     rows: &[u32],
 ) -> Result<Result<bool, TruthStop>, Fail> {
-    answer(alloc, query, question, &Points::One(binding(alloc, rows, None)?))
+    answer(
+        alloc,
+        query,
+        question,
+        &Points::One(binding(alloc, rows, None)?),
+    )
 }
 
 fn at_two(
@@ -244,12 +257,27 @@ fn null_in_a_not_in_subquery(rt: HostRuntime) -> Result<(), Fail> {
     let alloc = rt.alloc();
     let question = Question::NullInNotIn { sub: 0 };
     let query_of_managers = query(alloc, &[0], not_in(alloc, 2)?)?;
-    assert_eq!(rt; inside(alloc, &query_of_managers, question, 0, None)?, Ok(true));
-    assert_eq!(rt; inside(alloc, &query_of_managers, question, 3, None)?, Ok(false));
-    assert_eq!(rt; at_one(alloc, &query_of_managers, Question::Empty, &[0])?, Ok(false));
+    assert_eq!(rt;
+        inside(alloc, &query_of_managers, question, 0, None)?,
+        Ok(true)
+    );
+    assert_eq!(rt;
+        inside(alloc, &query_of_managers, question, 3, None)?,
+        Ok(false)
+    );
+    assert_eq!(rt;
+        at_one(alloc, &query_of_managers, Question::Empty, &[0])?,
+        Ok(false)
+    );
     let query_of_employees = query(alloc, &[0], not_in(alloc, 0)?)?;
-    assert_eq!(rt; inside(alloc, &query_of_employees, question, 0, None)?, Ok(false));
-    assert_eq!(rt; at_one(alloc, &query_of_employees, Question::Empty, &[0])?, Ok(true));
+    assert_eq!(rt;
+        inside(alloc, &query_of_employees, question, 0, None)?,
+        Ok(false)
+    );
+    assert_eq!(rt;
+        at_one(alloc, &query_of_employees, Question::Empty, &[0])?,
+        Ok(true)
+    );
     Ok(())
 }
 
@@ -285,7 +313,10 @@ fn join_with_a_row_for_each(rt: HostRuntime) -> Result<(), Fail> {
         (Question::SameRow { entry: 0, other: 1 }, 0, 1, true),
     ];
     for (question, row, other, expected) in one {
-        assert_eq!(rt; at_one(alloc, &query, question, &[row, other])?, Ok(expected));
+        assert_eq!(rt;
+            at_one(alloc, &query, question, &[row, other])?,
+            Ok(expected)
+        );
     }
     let two = [
         (Question::NeedlessDistinct, 0, 1, true),
@@ -296,7 +327,10 @@ fn join_with_a_row_for_each(rt: HostRuntime) -> Result<(), Fail> {
         (Question::Empty, 0, 1, false),
     ];
     for (question, row, other, expected) in two {
-        assert_eq!(rt; at_two(alloc, &query, question, &[0, 0], &[row, other])?, Ok(expected));
+        assert_eq!(rt;
+            at_two(alloc, &query, question, &[0, 0], &[row, other])?,
+            Ok(expected)
+        );
     }
     assert_eq!(rt; without(alloc, &query, 1, 0)?, Ok(false));
     Ok(())
