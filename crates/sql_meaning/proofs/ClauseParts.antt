@@ -5,7 +5,7 @@ use Rattle.std.specs.List.{list_any}
 use Rattle.lint_core.specs.Asked.{conjuncts_with, conjuncts_without}
 use Rattle.lint_core.specs.Condition.{truth}
 use Rattle.lint_core.specs.Database.{below, rows_of}
-use Rattle.lint_core.specs.Evaluation.{Evaluated, and_then, map_ok, all_ok, all_hold}
+use Rattle.lint_core.specs.Evaluation.{Evaluated, map_ok, all_ok, all_hold}
 use Rattle.lint_core.specs.Fits.{main_tables, tables_of}
 use Rattle.lint_core.specs.Points.{differ_in_entry, is_same_binding, with_row}
 use Rattle.lint_core.specs.Question.{all_true, are_true_with, is_binding_without, no_row_fits, outcome, table_of}

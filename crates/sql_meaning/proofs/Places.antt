@@ -1,6 +1,6 @@
 -- Points: lists of places, whole and in two parts.
 use Rattle.std.proofs.Common.{◌≡◌, ◌∙◌, ap, refl, sym, add-one, ◌+◌, ℕ, zero, suc, Bool, true, false, ◌&&◌, List, [], ◌∷◌, ◌++◌, length, take, drop, remove, nat_eq, nat_lt, arith}
-use Rattle.std.specs.Prelude.{not, insert}
+use Rattle.std.specs.Prelude.{not}
 use Rattle.lint_core.specs.declared.database.Database.{Database}
 use Rattle.lint_core.specs.Database.{rows_of}
 use Rattle.lint_core.specs.Points.{are_rows, is_binding, are_same_rows, is_same_binding, differ_in_last_level}

@@ -1,4 +1,4 @@
-use Rattle.std.proofs.Common.{◌≡◌, length, arith}
+use Rattle.std.proofs.Common.{arith}
 use Rattle.sql_meaning.proofs.Places.{not_rows}
 use Rattle.sql_meaning.proofs.points.are_rows.Goals as goal
 

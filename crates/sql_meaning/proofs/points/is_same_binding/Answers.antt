@@ -1,4 +1,4 @@
-use Rattle.std.proofs.Common.{◌≡◌, length, arith}
+use Rattle.std.proofs.Common.{arith}
 use Rattle.sql_meaning.proofs.Places.{not_same}
 use Rattle.sql_meaning.proofs.points.is_same_binding.Goals as goal
 

@@ -1,4 +1,4 @@
-use Rattle.std.proofs.Common.{◌≡◌, ◌∷◌, ◌++◌, [], drop, take}
+use Rattle.std.proofs.Common.{◌≡◌, ◌++◌, drop}
 use Rattle.sql_meaning.proofs.points.with_row.Given as goal
 
 abbrev pub invariant-loop-other : goal.invariant-loop-other

@@ -1,5 +1,4 @@
-use Rattle.std.proofs.Common.{◌≡◌, arith}
-use Rattle.std.proofs.lemmas.Grind.{common_steps}
+use Rattle.std.proofs.Common.{◌≡◌}
 use Rattle.lint_core.specs.Fits.{main_tables}
 use Rattle.lint_core.specs.Points.{is_same_binding}
 use Rattle.sql_meaning.proofs.ClauseParts.{distinct_two}
