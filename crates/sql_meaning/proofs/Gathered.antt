@@ -160,7 +160,7 @@ below_after (suc n) k low =
     ]
 
 -- the numbers from k on
-below_from : (n k : ℕ) → k < n → drop k (below n) ≡ k ∷ drop (k + 1) (below n)
+pub below_from : (n k : ℕ) → k < n → drop k (below n) ≡ k ∷ drop (k + 1) (below n)
 below_from n k low = below_after n k low ∙ ap (λ m. k ∷ drop m (below n)) (sym (add-one k))
 
 -- the loop over the rows of one table: where it ends, after one row, and where it stops

@@ -1,4 +1,6 @@
+mod ClauseParts
 mod Gathered
+mod Places
 mod Standing
 mod Steps
 mod TableSizes

@@ -5,4 +5,5 @@ pub mod Stops
 pub mod Violations
 pub mod Behind
 pub mod Replacing
+pub mod Plan
 pub mod Reached

@@ -134,7 +134,8 @@ impl<'a> Search<'a> {
     }
 }
 
-fn row_count(database: &Database, table: u32) -> usize
+/// How many rows a table has; 0 where there is no such table.
+pub(crate) fn row_count(database: &Database, table: u32) -> usize
     ensures { result ≡ length (rows_of database.now table) }
 {
     match database.tables.as_slice().get(table as usize) {

@@ -7,10 +7,15 @@
 //! `subquery_of` in `Reached` and `constant` in `Replacing`; the rest is defined in lint_core.
 #![tactic(auto)]
 
+mod clauses;
 mod conjunction;
 mod database_meets;
 mod evaluation;
+#[cfg(test)]
+mod fail_tests;
+mod fails;
 mod levels;
+mod points;
 mod replacing;
 mod stop;
 mod subqueries;
@@ -20,6 +25,7 @@ mod violation;
 pub use conjunction::conjuncts;
 pub use database_meets::{meets, violations_are_failures};
 pub use evaluation::truth;
+pub use fails::fails_at;
 pub use replacing::replaced;
 pub use stop::TruthStop;
 pub use subqueries::{Subquery, not_in_subquery, scalar_subquery};
