@@ -1,0 +1,5 @@
+pub mod Holds
+pub mod Negated
+pub mod Placed
+pub mod Sentences
+pub mod Nodes
