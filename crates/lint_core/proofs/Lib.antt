@@ -2,9 +2,16 @@ mod Lists
 mod Ring
 mod Inside
 mod Named
+mod NamedEntries
+mod Counting
+mod Alone
+mod Members
+mod Candidates
 mod Holds
 mod Realized
 pub mod Conditions
+pub mod Described
+pub mod Parted
 mod Edges
 mod Steps
 mod Comparisons

@@ -15,7 +15,9 @@ pub mod Conjuncts
 pub mod Predicates
 pub mod Subqueries
 pub mod Naming
+pub mod Counts
 pub mod Asked
+pub mod ScalarWithout
 pub mod Points
 pub mod Question
 pub mod QueryAnswer

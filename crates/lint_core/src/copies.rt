@@ -1,9 +1,9 @@
-//! Copies of values, conditions and queries. A copy is equal to its source; `NoMemory` comes where
+//! Copies of values, conditions, queries, databases and points. A copy is equal to its source; `NoMemory` comes where
 //! memory for it runs out, and leaves the source as it is.
 ghost use Rattle.std.specs.Prelude.{◌≡◌, IfOk};
 
 use crate::condition::{Block, Cond, Entry, Term};
-use crate::database::Value;
+use crate::database::{Binding, Database, Points, Row, Value};
 use crate::query::{Item, Query};
 use lint_base::{Items, NoMemory};
 use sqlite_items::Boxed;
@@ -203,6 +203,92 @@ impl Query {
             items: copy_items(alloc, self.items.as_slice())?,
             block: self.block.copy(alloc)?,
             order: copy_terms(alloc, self.order.as_slice())?,
+        })
+    }
+}
+
+fn copy_values(alloc: Global, values: &[Value]) -> Result<Items<Value>, NoMemory>
+    ensures { IfOk result (λ copies. copies ≡ values.now) }
+{
+    let mut copies = Items::new(alloc);
+    for value in values {
+        copies.push(value.copy(alloc)?)?;
+    }
+    Ok(copies)
+}
+
+fn copy_rows(alloc: Global, rows: &[Row]) -> Result<Items<Row>, NoMemory>
+    ensures { IfOk result (λ copies. copies ≡ rows.now) }
+{
+    let mut copies = Items::new(alloc);
+    for row in rows {
+        copies.push(Row {
+            values: copy_values(alloc, row.values.as_slice())?,
+        })?;
+    }
+    Ok(copies)
+}
+
+fn copy_tables(alloc: Global, tables: &[Items<Row>]) -> Result<Items<Items<Row>>, NoMemory>
+    ensures { IfOk result (λ copies. copies ≡ tables.now) }
+{
+    let mut copies = Items::new(alloc);
+    for rows in tables {
+        copies.push(copy_rows(alloc, rows.as_slice())?)?;
+    }
+    Ok(copies)
+}
+
+impl Database {
+    /// The same database. `NoMemory` where there is no memory for all of it.
+    pub fn copy(&self, alloc: Global) -> Result<Database, NoMemory>
+        ensures { IfOk result (λ copy. copy ≡ self.now) }
+    {
+        Ok(Database {
+            tables: copy_tables(alloc, self.tables.as_slice())?,
+        })
+    }
+}
+
+fn copy_numbers(alloc: Global, numbers: &[u32]) -> Result<Items<u32>, NoMemory>
+    ensures { IfOk result (λ copies. copies ≡ numbers.now) }
+{
+    let mut copies = Items::new(alloc);
+    for number in numbers {
+        copies.push(*number)?;
+    }
+    Ok(copies)
+}
+
+fn copy_levels(alloc: Global, levels: &[Items<u32>]) -> Result<Items<Items<u32>>, NoMemory>
+    ensures { IfOk result (λ copies. copies ≡ levels.now) }
+{
+    let mut copies = Items::new(alloc);
+    for level in levels {
+        copies.push(copy_numbers(alloc, level.as_slice())?)?;
+    }
+    Ok(copies)
+}
+
+impl Binding {
+    fn copy(&self, alloc: Global) -> Result<Binding, NoMemory>
+        ensures { IfOk result (λ copy. copy ≡ self.now) }
+    {
+        Ok(Binding {
+            levels: copy_levels(alloc, self.levels.as_slice())?,
+        })
+    }
+}
+
+impl Points {
+    /// The same points. `NoMemory` where there is no memory for all of them.
+    pub fn copy(&self, alloc: Global) -> Result<Points, NoMemory>
+        ensures { IfOk result (λ copy. copy ≡ self.now) }
+    {
+        Ok(match self {
+            Points::One(one) => Points::One(one.copy(alloc)?),
+            Points::Two(one, two) => Points::Two(one.copy(alloc)?, two.copy(alloc)?),
+            Points::Without(one) => Points::Without(one.copy(alloc)?),
         })
     }
 }

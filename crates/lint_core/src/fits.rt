@@ -3,7 +3,7 @@ ghost use Rattle.std.specs.Prelude.{◌≡◌, [], sum_by, nat_lt, nat_le, IfSom
 ghost use Rattle.std.specs.List.{list_all};
 ghost use Rattle.lint_core.specs.declared.condition.Block.{out-Block};
 ghost use Rattle.lint_core.specs.Kind.{compares_both};
-ghost use Rattle.lint_core.specs.Fits.{tables_of, table_at, is_plain, cell_kind, term_kind, cond_fits, block_meaning, block_fits, selected_fits, item_fits, order_fits, count_conditions, is_flat, check_fits, selection_fits_in, selection_fits, query_fits};
+ghost use Rattle.lint_core.specs.Fits.{tables_of, table_at, is_plain, cell_kind, term_kind, cond_fits, block_meaning, block_fits, selected_fits, item_fits, order_fits, count_conditions, is_flat, check_fits, main_tables, selection_fits_in, selection_fits, query_fits};
 ghost use Rattle.lint_core.specs.Levels.{tables_of_levels};
 
 use crate::condition::{Block, Cond, Entry, Term};
@@ -321,6 +321,17 @@ impl Query {
         self.selection_fits(tables)
             && self.block.fits_alone(tables)
             && self.block.cond.is_within_limit()
+    }
+
+    /// What a term of the main query is, as `Term::kind` at its one level.
+    pub(crate) fn main_kind(&self, tables: &[Table], term: &Term) -> Option<Kind>
+        ensures { result ≡ term_kind tables.now (main_tables self.now) term.now }
+    {
+        let levels = Levels::Inside {
+            entries: self.block.entries.as_slice(),
+            outer: &Levels::Outside,
+        };
+        term.kind(tables, &levels)
     }
 
     fn selection_fits(&self, tables: &[Table]) -> bool

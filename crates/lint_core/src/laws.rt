@@ -1,14 +1,16 @@
 //! The laws that join questions, sentences and certificates. The functions do nothing: each contract
 //! is a law about the definitions in `specs/`.
-ghost use Rattle.std.specs.Prelude.{◌≡◌, ℕ, true, false, List, [], ◌∷◌};
+ghost use Rattle.std.specs.Prelude.{◌≡◌, ℕ, true, false, List, [], ◌∷◌, Contains};
 ghost use Rattle.lint_core.specs.declared.certificate.Step.{Step};
 ghost use Rattle.lint_core.specs.declared.database.Database.{Database};
 ghost use Rattle.lint_core.specs.declared.database.Points.{Points};
 ghost use Rattle.lint_core.specs.declared.formula.Formula.{Formula};
 ghost use Rattle.lint_core.specs.declared.query.Query.{Query};
+ghost use Rattle.lint_core.specs.declared.query.Question.{Question};
 ghost use Rattle.lint_core.specs.declared.query.Question.TheVariants.{Empty};
 ghost use Rattle.lint_core.specs.declared.database.Value.TheVariants.{Null};
 ghost use Rattle.lint_core.specs.declared.schema.Table.{Table};
+ghost use Rattle.lint_core.specs.Asked.{is_asked, questions};
 ghost use Rattle.lint_core.specs.Certificate.{accepts};
 ghost use Rattle.lint_core.specs.Database.{Place};
 ghost use Rattle.lint_core.specs.FirstForm.{Conjunct, IsFirstForm, is_first_form};
@@ -62,4 +64,12 @@ pub fn certified_question_holds()
         → (steps : List Step)
         → accepts schema (empty_counter query) steps ≡ true
         → HoldsAlways schema query Empty Null }
+{}
+
+/// The list of a query's questions has exactly those that are asked of it.
+pub fn asked_questions_are_listed()
+    ensures listed { (schema : List Table) (query : Query) (question : Question)
+        → is_asked schema query question ≡ true → Contains (questions schema query) question }
+    ensures asked { (schema : List Table) (query : Query) (question : Question)
+        → Contains (questions schema query) question → is_asked schema query question ≡ true }
 {}

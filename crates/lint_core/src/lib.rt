@@ -17,14 +17,18 @@
 //! `worked_truths` and `worked_constraints` show the meaning by small examples (`Examples`).
 #![tactic(auto)]
 
+mod asked;
 mod certificate;
 mod condition;
 mod copies;
+mod counts;
 mod database;
+mod database_fits;
 mod first_form;
 mod fits;
 mod formula;
 mod laws;
+mod naming;
 mod query;
 mod run;
 mod schema;
@@ -35,8 +39,8 @@ pub use condition::{Block, Cond, Entry, Term};
 pub use database::{Binding, Counter, Database, Points, Row, Truth, Value, Violation};
 pub use formula::{Atom, Formula, Side};
 pub use laws::{
-    accepted_steps_refute, certified_question_holds, first_form_is_tested, formula_says_truth,
-    sentence_says_failure,
+    accepted_steps_refute, asked_questions_are_listed, certified_question_holds,
+    first_form_is_tested, formula_says_truth, sentence_says_failure,
 };
 pub use query::{Item, Query, Question};
 pub use run::{Answer, QueryResult, QueryRun, Run};

@@ -24,43 +24,25 @@ pub struct Query {
 #[derive(Clone, Copy, Debug, PartialEq, Eq)]
 pub enum Question {
     /// E9: does the scalar subquery give at most one row? They are counted by their right parentheses.
-    OneRow {
-        sub: u32,
-    },
+    OneRow { sub: u32 },
     /// E1: is the answer empty?
     Empty,
     /// E2: does DISTINCT leave the answer as it is?
     NeedlessDistinct,
     /// E3: has the item one value in all rows?
-    Constant {
-        item: u32,
-    },
+    Constant { item: u32 },
     /// E4: have the two items the same value in each row?
-    Duplicate {
-        item: u32,
-        other: u32,
-    },
+    Duplicate { item: u32, other: u32 },
     /// E5: does each combination of the other entries' rows, at which the conjuncts that do not name the
     /// entry are true, find exactly one row of it that makes the other conjuncts true?
-    NeedlessJoin {
-        entry: u32,
-    },
+    NeedlessJoin { entry: u32 },
     /// E6: is WHERE true at the same bindings with TRUE in place of the predicate?
-    Implied {
-        predicate: u32,
-    },
+    Implied { predicate: u32 },
     /// E7: is WHERE true at the same bindings with FALSE in place of the predicate?
-    Impossible {
-        predicate: u32,
-    },
+    Impossible { predicate: u32 },
     /// E8: have the two entries always the same row?
-    SameRow {
-        entry: u32,
-        other: u32,
-    },
+    SameRow { entry: u32, other: u32 },
     /// E10: does the NOT IN subquery never select NULL? Those that select a column are counted by their left
     /// parentheses.
-    NullInNotIn {
-        sub: u32,
-    },
+    NullInNotIn { sub: u32 },
 }

@@ -245,7 +245,7 @@ fn is_among(number: u32, others: &[u32]) -> bool
     others.iter().any(|o| number == *o)
 }
 
-fn one_kind(one: Option<Kind>, other: Option<Kind>) -> bool
+pub(crate) fn one_kind(one: Option<Kind>, other: Option<Kind>) -> bool
     ensures { result ≡ are_of_one_kind one other }
 {
     match (one, other) {

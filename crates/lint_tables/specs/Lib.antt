@@ -1,3 +1,4 @@
 pub mod Grid
 pub mod Words
 pub mod Operators
+pub mod Ways

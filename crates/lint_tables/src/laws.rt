@@ -3,6 +3,7 @@ ghost use Rattle.std.specs.Prelude.{◌≡◌, ◌<◌, ◌-◌, ℕ, ℤ, not, 
 ghost use Rattle.std.specs.List.{range_with_len};
 ghost use Rattle.lint_tables.specs.Grid.{cell_at};
 ghost use Rattle.lint_tables.specs.Operators.{is_related, negation, mirror};
+ghost use Rattle.lint_tables.specs.Ways.{ways_of, ways_hold};
 ghost use Rattle.lint_tables.specs.Words.{upper, place_of, reserved};
 ghost use Rattle.lint_tables.specs.declared.op.Op.{Op as Operator};
 
@@ -21,6 +22,11 @@ pub fn grids_are_truth_tables()
 pub fn operators_change_sides()
     ensures negation { (op : Operator) (a b : ℤ) → is_related (negation op) a b ≡ not (is_related op a b) }
     ensures mirror { (op : Operator) (a b : ℤ) → is_related (mirror op) a b ≡ is_related op b a }
+{}
+
+/// The ways of an operator hold of two whole numbers exactly where the operator does.
+pub fn ways_are_exact()
+    ensures { (op : Operator) (a b : ℤ) → ways_hold (ways_of op) a b ≡ is_related op a b }
 {}
 
 /// The reserved words are in upper case, and each is found at its own place, so that none stands twice.

@@ -1,9 +1,10 @@
 //! Small tables that others look things up in: the three-valued AND, OR and NOT as grids of numbers,
-//! fixed lists of words with the reserved words of SQL, and the comparison operators.
+//! fixed lists of words with the reserved words of SQL, and the comparison operators with the difference
+//! bounds that state them.
 //!
 //! The layer above may use every public item; it looks a keyword up by `RESERVED.find`. Of `specs/` a
-//! reader must believe `Grid`, `Words` and `Operators`; `laws` proves of the grids, of the operators and of
-//! the reserved words what they are for.
+//! reader must believe `Grid`, `Words`, `Operators` and `Ways`; `laws` proves of the grids, of the
+//! operators, of their bounds and of the reserved words what they are for.
 #![tactic(auto)]
 
 mod fixed;
@@ -13,8 +14,10 @@ mod op;
 
 pub use fixed::{Fixed, RESERVED, reserved_words};
 pub use grid::{AND_GRID, Grid, NOT_GRID, OR_GRID};
-pub use laws::{grids_are_truth_tables, operators_change_sides, reserved_words_stand_once};
-pub use op::Op;
+pub use laws::{
+    grids_are_truth_tables, operators_change_sides, reserved_words_stand_once, ways_are_exact,
+};
+pub use op::{Op, Way, Ways};
 
 #[cfg(test)]
 mod tests {
@@ -100,5 +103,28 @@ mod tests {
         assert_eq!(rt; AND_GRID.at(1, 2), 1);
         assert_eq!(rt; OR_GRID.at(1, 2), 2);
         assert_eq!(rt; NOT_GRID.at(0, 1), 1);
+    }
+
+    #[test]
+    fn ways_of_the_operators(rt: HostRuntime) {
+        let below = |less: u8| Way {
+            swapped: false,
+            less,
+        };
+        let above = |less: u8| Way {
+            swapped: true,
+            less,
+        };
+        let operators = [
+            (Op::Eq, below(0), Some(above(0)), true),
+            (Op::Ne, below(1), Some(above(1)), false),
+            (Op::Lt, below(1), None, true),
+            (Op::Le, below(0), None, true),
+            (Op::Gt, above(1), None, true),
+            (Op::Ge, above(0), None, true),
+        ];
+        for (operator, one, two, all) in operators {
+            assert_eq!(rt; operator.ways(), Ways { one, two, all });
+        }
     }
 }

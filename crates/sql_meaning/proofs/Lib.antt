@@ -1,1 +1,5 @@
-
+mod Gathered
+mod Standing
+mod Steps
+mod Truths
+mod Weights

@@ -1,2 +1,5 @@
+pub mod Gathered
+pub mod Seen
+pub mod Standing
 pub mod Stops
 pub mod Violations

@@ -6,6 +6,10 @@
 //! lint_core.
 #![tactic(auto)]
 
+mod evaluation;
+mod levels;
 mod stop;
+mod value;
 
+pub use evaluation::truth;
 pub use stop::TruthStop;

@@ -1,0 +1,476 @@
+//! The truth of a condition at a binding.
+ghost use Rattle.std.specs.Prelude.{◌≡◌, Ok, map, OnOk, ◌++◌, ◌∷◌, [], length};
+ghost use Rattle.lint_tables.specs.declared.op.Op.TheVariants.{Eq};
+ghost use Rattle.lint_core.specs.declared.condition.Block.{out-Block};
+ghost use Rattle.lint_core.specs.Comparison.{compare};
+ghost use Rattle.lint_core.specs.Condition.{truth, selected, items_at, inner_bindings, scalar_value, in_truth, exists_truth};
+ghost use Rattle.lint_core.specs.Database.{rows_of};
+ghost use Rattle.lint_core.specs.Evaluation.{map_ok, all_ok};
+ghost use Rattle.lint_core.specs.Fits.{tables_of};
+ghost use Rattle.lint_core.specs.Truth.{not_of, negated_if, least, greatest, and_of, or_of};
+ghost use Rattle.sql_meaning.specs.Gathered.{joined, gathered, gathered_at, answer};
+ghost use Rattle.sql_meaning.specs.Seen.{value_of, values_of};
+ghost use Rattle.sql_meaning.specs.Standing.{tables_of_levels, binding_of_levels};
+ghost use Rattle.sql_meaning.specs.Stops.{Gives};
+
+use crate::levels::Levels;
+use crate::stop::TruthStop;
+use crate::value::{Seen, compare, term_value, truth_of};
+use lint_base::{Items, Span};
+use lint_core::{Binding, Block, Cond, Database, Entry, Schema, Term, Truth};
+use lint_tables::Op;
+use std::alloc::Global;
+
+fn not_of(truth: Truth) -> Truth
+    ensures { result ≡ not_of truth }
+{
+    match truth {
+        Truth::True => Truth::False,
+        Truth::Unknown => Truth::Unknown,
+        Truth::False => Truth::True,
+    }
+}
+
+fn negated_if(negated: bool, truth: Truth) -> Truth
+    ensures { result ≡ negated_if negated truth }
+{
+    if negated { not_of(truth) } else { truth }
+}
+
+fn least(left: Truth, right: Truth) -> Truth
+    ensures { result ≡ least left right }
+{
+    match (left, right) {
+        (Truth::False, _) | (_, Truth::False) => Truth::False,
+        (Truth::True, other) | (other, Truth::True) => other,
+        (Truth::Unknown, Truth::Unknown) => Truth::Unknown,
+    }
+}
+
+fn greatest(left: Truth, right: Truth) -> Truth
+    ensures { result ≡ greatest left right }
+{
+    match (left, right) {
+        (Truth::True, _) | (_, Truth::True) => Truth::True,
+        (Truth::False, other) | (other, Truth::False) => other,
+        (Truth::Unknown, Truth::Unknown) => Truth::Unknown,
+    }
+}
+
+/// Whether a value is among others.
+fn is_in(left: &Seen, items: &[Seen]) -> Truth
+    ensures { result ≡ in_truth (value_of left.now) (values_of items.now) }
+{
+    let mut truth = Truth::False;
+    for item in items {
+        truth = greatest(truth, compare(Op::Eq, left, item));
+    }
+    truth
+}
+
+/// The one value of a scalar subquery; NULL for no row.
+fn scalar_value<'a>(span: Span, items: &[Seen<'a>]) -> Result<Seen<'a>, TruthStop>
+    ensures { Gives (scalar_value span (values_of items.now)) (answer value_of result) }
+{
+    match items {
+        [] => Ok(Seen::Null),
+        [item] => Ok(*item),
+        _ => Err(TruthStop::TwoRows { span }),
+    }
+}
+
+/// A subquery in the levels outside of it, and what it selects.
+#[derive(Clone, Copy)]
+struct Search<'a> {
+    alloc: Global,
+    database: &'a Database,
+    block: &'a Block,
+    item: &'a Term,
+    outer: &'a Levels<'a>,
+}
+
+impl<'a> Search<'a> {
+    /// Adds what is selected at one list of row places.
+    #[cycle(evaluation)]
+    fn visit_rows(
+        &self,
+        rows: &[usize],
+        mut found: Vec<Seen<'a>>,
+    ) -> Result<Vec<Seen<'a>>, TruthStop>
+        ensures { Gives (joined (Ok (values_of found.entry.items)) (gathered_at self.now.database.now self.now.item.now (tables_of_levels self.now.outer.now ++ tables_of (out-Block self.now.block.now).entries ∷ []) (binding_of_levels self.now.outer.now) (truth self.now.database.now (out-Block self.now.block.now).cond) rows.now)) (answer (λ found. values_of found.items) result) }
+    {
+        let levels = Levels::Inside {
+            entries: self.block.entries.as_slice(),
+            rows,
+            outer: &*self.outer,
+        };
+        if evaluate(self.alloc, self.database, &self.block.cond, &levels)? == Truth::True {
+            found.push(term_value(self.database, self.item, &levels))?;
+        }
+        Ok(found)
+    }
+
+    /// Adds what is selected at each list of row places that begins with these and has one for each of the
+    /// rest of the entries.
+    #[cycle(evaluation)]
+    fn visit(
+        &self,
+        rest: &[Entry],
+        rows: &mut Vec<usize>,
+        mut found: Vec<Seen<'a>>,
+    ) -> Result<Vec<Seen<'a>>, TruthStop>
+        ensures gives { Gives (joined (Ok (values_of found.entry.items)) (gathered self.now.database.now self.now.item.now (tables_of_levels self.now.outer.now ++ tables_of (out-Block self.now.block.now).entries ∷ []) (binding_of_levels self.now.outer.now) (truth self.now.database.now (out-Block self.now.block.now).cond) rows.old.items (tables_of rest.now))) (answer (λ found. values_of found.items) result) }
+        ensures rows { OnOk result (rows.new.items ≡ rows.old.items) }
+    {
+        let Some((entry, others)) = rest.split_first() else {
+            return self.visit_rows(rows.as_slice(), found);
+        };
+        for row in 0..row_count(self.database, entry.table) {
+            rows.push(row)?;
+            found = self.visit(others, rows, found)?;
+            rows.pop();
+        }
+        Ok(found)
+    }
+}
+
+fn row_count(database: &Database, table: u32) -> usize
+    ensures { result ≡ length (rows_of database.now table) }
+{
+    match database.tables.as_slice().get(table as usize) {
+        Some(rows) => rows.as_slice().len(),
+        None => 0,
+    }
+}
+
+/// What a subquery selects, by row lists in their order.
+#[cycle(evaluation)]
+fn select<'a>(
+    alloc: Global,
+    database: &'a Database,
+    block: &'a Block,
+    item: &'a Term,
+    outer: &'a Levels<'a>,
+) -> Result<Vec<Seen<'a>>, TruthStop>
+    ensures { Gives (map_ok (items_at database.now item.now) (selected (inner_bindings database.now (tables_of (out-Block block.now).entries) (truth database.now (out-Block block.now).cond) (tables_of_levels outer.now) (binding_of_levels outer.now)))) (answer (λ found. values_of found.items) result) }
+{
+    let search = Search {
+        alloc,
+        database: &*database,
+        block: &*block,
+        item: &*item,
+        outer: &*outer,
+    };
+    let mut rows = Vec::new(alloc);
+    search.visit(block.entries.as_slice(), &mut rows, Vec::new(alloc))
+}
+
+#[cycle(evaluation)]
+fn all_of(
+    alloc: Global,
+    database: &Database,
+    parts: &[Cond],
+    levels: &Levels,
+) -> Result<Truth, TruthStop>
+    ensures { Gives (map_ok and_of (all_ok (map (λ part. truth database.now part (tables_of_levels levels.now) (binding_of_levels levels.now)) parts.now))) result }
+{
+    let mut truth = Truth::True;
+    for part in parts {
+        truth = least(truth, evaluate(alloc, database, part, levels)?);
+    }
+    Ok(truth)
+}
+
+#[cycle(evaluation)]
+fn any_of(
+    alloc: Global,
+    database: &Database,
+    parts: &[Cond],
+    levels: &Levels,
+) -> Result<Truth, TruthStop>
+    ensures { Gives (map_ok or_of (all_ok (map (λ part. truth database.now part (tables_of_levels levels.now) (binding_of_levels levels.now)) parts.now))) result }
+{
+    let mut truth = Truth::False;
+    for part in parts {
+        truth = greatest(truth, evaluate(alloc, database, part, levels)?);
+    }
+    Ok(truth)
+}
+
+/// EXISTS asks for rows alone, so that it selects NULL.
+#[cycle(evaluation)]
+fn exists(
+    alloc: Global,
+    database: &Database,
+    block: &Block,
+    levels: &Levels,
+) -> Result<Truth, TruthStop>
+    ensures { Gives (map_ok exists_truth (selected (inner_bindings database.now (tables_of (out-Block block.now).entries) (truth database.now (out-Block block.now).cond) (tables_of_levels levels.now) (binding_of_levels levels.now)))) result }
+{
+    let item = Term::Null;
+    let found = select(alloc, &*database, &*block, &item, &*levels)?;
+    Ok(truth_of(!found.is_empty()))
+}
+
+/// The truth of a condition in these levels.
+#[cycle(evaluation)]
+pub(crate) fn evaluate(
+    alloc: Global,
+    database: &Database,
+    cond: &Cond,
+    levels: &Levels,
+) -> Result<Truth, TruthStop>
+    ensures { Gives (truth database.now cond.now (tables_of_levels levels.now) (binding_of_levels levels.now)) result }
+{
+    match cond {
+        Cond::True => Ok(Truth::True),
+        Cond::False => Ok(Truth::False),
+        Cond::And(parts) => all_of(alloc, database, parts.as_slice(), levels),
+        Cond::Or(parts) => any_of(alloc, database, parts.as_slice(), levels),
+        Cond::Not(part) => Ok(not_of(evaluate(alloc, database, part.get(), levels)?)),
+        Cond::Compare {
+            op,
+            left,
+            right,
+            ..
+        } => Ok(compare(
+            *op,
+            &term_value(database, left, levels),
+            &term_value(database, right, levels),
+        )),
+        Cond::IsNull { term, negated, .. } => {
+            let is_null = term_value(database, term, levels).is_null();
+            Ok(negated_if(*negated, truth_of(is_null)))
+        }
+        Cond::Exists { block, .. } => exists(alloc, database, block.get(), levels),
+        Cond::In {
+            term,
+            block,
+            item,
+            negated,
+            ..
+        } => {
+            let items = select(alloc, &*database, block.get(), item, &*levels)?;
+            let left = term_value(database, term, levels);
+            Ok(negated_if(*negated, is_in(&left, items.as_slice())))
+        }
+        Cond::Scalar {
+            op,
+            left,
+            block,
+            item,
+            ..
+        } => {
+            let items = select(alloc, &*database, block.get(), item, &*levels)?;
+            let value = scalar_value(block.get().span, items.as_slice())?;
+            Ok(compare(*op, &term_value(database, left, levels), &value))
+        }
+    }
+}
+
+/// The truth of a condition at a binding, whose row places are of these tables, level by level
+/// (ISO/IEC 9075:1992, 8.12). A cell that is not there is NULL.
+///
+/// `TwoRows` comes where a scalar subquery of the condition gives two rows, also where another part alone would
+/// decide: it has the place of the first such subquery in the order of evaluation, which takes the parts from
+/// left to right, and the inner bindings in their order. `NoMemory` may come instead of either.
+pub fn truth(
+    alloc: Global,
+    _schema: &Schema,
+    database: &Database,
+    cond: &Cond,
+    tables: &Items<Items<u32>>,
+    at: &Binding,
+) -> Result<Truth, TruthStop>
+    ensures { Gives (truth database.now cond.now tables.now at.now.levels) result }
+{
+    let levels = Levels::Given {
+        tables: tables.as_slice(),
+        rows: at.levels.as_slice(),
+    };
+    evaluate(alloc, database, cond, &levels)
+}
+
+#[cfg(test)]
+mod tests {
+    use super::*;
+    use lint_base::{NoMemory, Str};
+    use lint_core::{Row, Value};
+    use sqlite_items::Boxed;
+    use std::test::Fail;
+
+    const PLACE: Span = Span { from: 0, to: 1 };
+
+    const SUBQUERY: Span = Span { from: 36, to: 83 };
+
+    fn number(cell: Option<i64>) -> Value {
+        match cell {
+            Some(number) => Value::Int(number),
+            None => Value::Null,
+        }
+    }
+
+    fn text(alloc: Global, cell: Option<&str>) -> Result<Value, NoMemory> {
+        match cell {
+            Some(text) => Ok(Value::Text(Str::from_str(alloc, text)?)),
+            None => Ok(Value::Null),
+        }
+    }
+
+    /// The row (10, 'X', NULL) of `dept (deptno, dname, loc)`.
+    fn department(alloc: Global) -> Result<Row, NoMemory> {
+        let mut values = Items::new(alloc);
+        values.push(number(Some(10)))?;
+        values.push(text(alloc, Some("X"))?)?;
+        values.push(Value::Null)?;
+        Ok(Row { values })
+    }
+
+    /// A row of `emp (empno, ename, job, mgr, sal, deptno)`, with mgr NULL and deptno 10.
+    fn employee(
+        alloc: Global,
+        empno: i64,
+        ename: &str,
+        job: Option<&str>,
+        sal: Option<i64>,
+    ) -> Result<Row, NoMemory> {
+        let mut values = Items::new(alloc);
+        values.push(number(Some(empno)))?;
+        values.push(text(alloc, Some(ename))?)?;
+        values.push(text(alloc, job)?)?;
+        values.push(Value::Null)?;
+        values.push(number(sal))?;
+        values.push(number(Some(10)))?;
+        Ok(Row { values })
+    }
+
+    /// dept, and emp with the first of three rows, or with all.
+    fn database(alloc: Global, all: bool) -> Result<Database, NoMemory> {
+        let mut dept = Items::new(alloc);
+        dept.push(department(alloc)?)?;
+        let mut emp = Items::new(alloc);
+        emp.push(employee(alloc, 1, "A", None, None)?)?;
+        if all {
+            emp.push(employee(alloc, 2, "B", Some("PRESIDENT"), Some(5))?)?;
+            emp.push(employee(alloc, 3, "C", Some("PRESIDENT"), Some(6))?)?;
+        }
+        let mut tables = Items::new(alloc);
+        tables.push(dept)?;
+        tables.push(emp)?;
+        Ok(Database { tables })
+    }
+
+    fn cell(level: u32, column: u32) -> Term {
+        Term::Cell {
+            level,
+            entry: 0,
+            column,
+            plus: 0,
+        }
+    }
+
+    /// A subquery over emp.
+    fn over_employees(alloc: Global, cond: Cond) -> Result<Boxed<Block>, NoMemory> {
+        let mut entries = Items::new(alloc);
+        entries.push(Entry {
+            table: 1,
+            name: Str::from_str(alloc, "E")?,
+            span: PLACE,
+        })?;
+        match Boxed::new(
+            alloc,
+            Block {
+                entries,
+                cond,
+                span: SUBQUERY,
+            },
+        ) {
+            Ok(block) => Ok(block),
+            Err(_) => Err(NoMemory),
+        }
+    }
+
+    /// `deptno NOT IN (SELECT mgr FROM emp)`, in a query over dept.
+    fn manages_nothing(alloc: Global) -> Result<Cond, NoMemory> {
+        match over_employees(alloc, Cond::True) {
+            Ok(block) => Ok(Cond::In {
+                term: cell(0, 0),
+                block,
+                item: cell(1, 3),
+                negated: true,
+                span: PLACE,
+            }),
+            Err(error) => Err(error),
+        }
+    }
+
+    /// `sal > (SELECT e.sal FROM emp e WHERE e.job = 'PRESIDENT')`, in a query over emp.
+    fn above_president(alloc: Global) -> Result<Cond, NoMemory> {
+        let is_president = Cond::Compare {
+            op: Op::Eq,
+            left: cell(1, 2),
+            right: Term::Text(Str::from_str(alloc, "PRESIDENT")?),
+            span: PLACE,
+        };
+        match over_employees(alloc, is_president) {
+            Ok(block) => Ok(Cond::Scalar {
+                op: Op::Gt,
+                left: cell(0, 4),
+                block,
+                item: cell(1, 4),
+                span: PLACE,
+            }),
+            Err(error) => Err(error),
+        }
+    }
+
+    /// One level with one entry.
+    fn level(alloc: Global, number: u32) -> Result<Items<Items<u32>>, NoMemory> {
+        let mut entries = Items::new(alloc);
+        entries.push(number)?;
+        let mut levels = Items::new(alloc);
+        levels.push(entries)?;
+        Ok(levels)
+    }
+
+    /// The truth at the first row of a table. The schema does not matter.
+    fn truth_at(
+        alloc: Global,
+        all: bool,
+        cond: &Cond,
+        table: u32,
+    ) -> Result<Result<Truth, TruthStop>, Fail> {
+        let schema = Schema::new(Items::new(alloc)).ok_or("a schema")?;
+        let at = Binding {
+            levels: level(alloc, 0)?,
+        };
+        let tables = level(alloc, table)?;
+        Ok(truth(alloc, &schema, &database(alloc, all)?, cond, &tables, &at))
+    }
+
+    #[test]
+    fn null_among_the_items_is_unknown(rt: HostRuntime) -> Result<(), Fail> {
+        let alloc = rt.alloc();
+        match manages_nothing(alloc) {
+            Ok(cond) => {
+                assert_eq!(rt; truth_at(alloc, false, &cond, 0)?, Ok(Truth::Unknown));
+                Ok(())
+            }
+            Err(error) => Err(error.into()),
+        }
+    }
+
+    #[test]
+    fn two_rows_stop_the_truth(rt: HostRuntime) -> Result<(), Fail> {
+        let alloc = rt.alloc();
+        match above_president(alloc) {
+            Ok(cond) => {
+                let stop = TruthStop::TwoRows { span: SUBQUERY };
+                assert_eq!(rt; truth_at(alloc, false, &cond, 1)?, Ok(Truth::Unknown));
+                assert_eq!(rt; truth_at(alloc, true, &cond, 1)?, Err(stop));
+                Ok(())
+            }
+            Err(error) => Err(error.into()),
+        }
+    }
+}
