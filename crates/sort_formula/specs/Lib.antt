@@ -3,3 +3,5 @@ pub mod Negated
 pub mod Placed
 pub mod Sentences
 pub mod Nodes
+pub mod Sides
+pub mod Translation
