@@ -5,3 +5,5 @@ pub mod Sentences
 pub mod Nodes
 pub mod Sides
 pub mod Translation
+pub mod Axioms
+pub mod Counters
