@@ -10,6 +10,7 @@ use Rattle.sort_formula.specs.declared.formula.Side.TheVariants as side
 use Rattle.sort_formula.specs.declared.formula.Atom.{Atom}
 use Rattle.sort_formula.specs.declared.formula.Atom.TheVariants as atom
 use Rattle.sort_formula.specs.declared.formula.Formula.{Formula, ind-Formula, roll-Formula, fold-roll-Formula, map-Formula}
+use Rattle.sort_formula.specs.declared.formula.Formula.TheVariants as f
 use Rattle.sort_formula.specs.declared.formula.Formula.TheOpen.{Formula-F}
 use Rattle.sort_formula.specs.Nodes.{quantifiers, quantifiers_step}
 use Rattle.sort_formula.specs.Variables.{side_is_below, atom_is_below, Meaning, placed_from_step, is_placed_from, below_step, is_below}
@@ -88,3 +89,12 @@ rolled x layer n m placed low =
 
 pub variables_below : (g : Formula) → Below g
 variables_below = ind-Formula Below (λ x y is. subst (λ z. Below (roll-Formula z)) is (rolled (layer_of y) (at_layer y)))
+
+-- those of a formula are those of its parts
+pub below_and : (m : ℕ) (parts : List Formula) → is_below m (f.And parts) ≡ list_all (is_below m) parts
+below_and m parts =
+    ap (is_below m) (sym (f.rolls-And parts)) ∙ (fold-roll-Formula Bool (below_step m) (Formula-F.And parts) ∙ list_all-map (λ part. part) (is_below m) parts)
+
+pub below_or : (m : ℕ) (parts : List Formula) → is_below m (f.Or parts) ≡ list_all (is_below m) parts
+below_or m parts =
+    ap (is_below m) (sym (f.rolls-Or parts)) ∙ (fold-roll-Formula Bool (below_step m) (Formula-F.Or parts) ∙ list_all-map (λ part. part) (is_below m) parts)

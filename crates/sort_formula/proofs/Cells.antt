@@ -82,11 +82,11 @@ value_in_tables (t' ∷ ts) [] meet t i column k at = cc
 value_in_tables (t' ∷ ts) (r ∷ rs) meet zero i column k at = value_in_rows t' r (both_left (rows_meet t' r) (tables_meet ts rs) meet) i column k at
 value_in_tables (t' ∷ ts) (r ∷ rs) meet (suc t) i column k at = value_in_tables ts rs (both_right (rows_meet t' r) (tables_meet ts rs) meet) t i column k at
 
-number_of_kind : (kind : Option Kind) (v : Value) → option_map_or is_number_kind kind false ≡ true → ((k : Kind) → kind ≡ Some k → is_of_kind k v ≡ true) → may_be_number v ≡ true
-number_of_kind None v fits of_kind = cc
-number_of_kind (Some kind.Null) v fits of_kind = cc
-number_of_kind (Some (kind.Number unit)) v fits of_kind = of_kind (kind.Number unit) refl
-number_of_kind (Some kind.Text) v fits of_kind = cc
+number_of_kind : (schema : List Table) (kind : Option Kind) (v : Value) → option_map_or (is_number_kind schema) kind false ≡ true → ((k : Kind) → kind ≡ Some k → is_of_kind k v ≡ true) → may_be_number v ≡ true
+number_of_kind schema None v fits of_kind = cc
+number_of_kind schema (Some kind.Null) v fits of_kind = cc
+number_of_kind schema (Some (kind.Number unit)) v fits of_kind = of_kind (kind.Number unit) refl
+number_of_kind schema (Some kind.Text) v fits of_kind = cc
 
 text_of_kind : (kind : Option Kind) (v : Value) → option_map_or is_text kind false ≡ true → ((k : Kind) → kind ≡ Some k → is_of_kind k v ≡ true) → may_be_text v ≡ true
 text_of_kind None v fits of_kind = cc
@@ -102,7 +102,7 @@ module _ (schema : List Table) (db : Database) (domains : is_of_domains schema d
 
   pub number_side : (rows : List Place) (s : Side) → is_number_side schema (tables_of_rows rows) s ≡ true → may_be_number (side_value db rows s) ≡ true
   number_side rows (side.Cell row column) fits =
-      number_of_kind (kind_at schema (tables_of_rows rows) row column) (cell_value db rows row column) fits (value_of_cell rows row column)
+      number_of_kind schema (kind_at schema (tables_of_rows rows) row column) (cell_value db rows row column) fits (value_of_cell rows row column)
   number_side rows side.Zero fits = refl
   number_side rows (side.Text text) fits = cc
 

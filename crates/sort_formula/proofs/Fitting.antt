@@ -1,5 +1,5 @@
 -- When a formula of each kind fits, by its parts.
-use Rattle.std.proofs.Common.{◌≡◌, ◌∙◌, ap, ℕ, Bool, ◌&&◌, List, [], ◌∷◌, ◌++◌, length}
+use Rattle.std.proofs.Common.{◌≡◌, ◌∙◌, ◌⊎◌, inl, inr, ap, ℕ, Bool, ◌&&◌, List, [], ◌∷◌, ◌++◌, length}
 use Rattle.std.proofs.lemmas.List.Folds.{list_all-map}
 use Rattle.std.specs.List.{list_all}
 use Rattle.std.specs.Prelude.{nat_lt, true}
@@ -40,11 +40,9 @@ module _ (atom_is : List ℕ → Atom → Bool) (table_is : ℕ → Bool) where
   test_forall : (table : ℕ) (body : Formula) (tables : List ℕ) → test (f.Forall table body) tables ≡ (table_is table && test body (tables ++ table ∷ []))
   test_forall table body tables = test_out (f.Forall table body) tables ∙ ap (λ layer. layer_test layer tables) (f.outs-Forall table body)
 
-pub bound_and : (parts : List Formula) (tables : List ℕ) → is_bound (f.And parts) tables ≡ list_all (λ g. is_bound g tables) parts
-bound_and = test_and atom_is_bound (λ table. true)
-
-pub bound_or : (parts : List Formula) (tables : List ℕ) → is_bound (f.Or parts) tables ≡ list_all (λ g. is_bound g tables) parts
-bound_or = test_or atom_is_bound (λ table. true)
+pub bound_parts : (g : Formula) (parts : List Formula) (tables : List ℕ) → (g ≡ f.And parts) ⊎ (g ≡ f.Or parts) → is_bound g tables ≡ list_all (λ part. is_bound part tables) parts
+bound_parts g parts tables (inl is_and) = ap (λ g. is_bound g tables) is_and ∙ test_and atom_is_bound (λ table. true) parts tables
+bound_parts g parts tables (inr is_or) = ap (λ g. is_bound g tables) is_or ∙ test_or atom_is_bound (λ table. true) parts tables
 
 module _ (schema : List Table) where
   abbrev is_table : ℕ → Bool
@@ -58,6 +56,11 @@ module _ (schema : List Table) where
 
   pub fits_or : (parts : List Formula) (tables : List ℕ) → formula_fits schema (f.Or parts) tables ≡ list_all (λ g. formula_fits schema g tables) parts
   fits_or = test_or (atom_fits schema) is_table
+
+  pub fits_parts : (g : Formula) (parts : List Formula) (tables : List ℕ) → (g ≡ f.And parts) ⊎ (g ≡ f.Or parts) →
+      formula_fits schema g tables ≡ list_all (λ part. formula_fits schema part tables) parts
+  fits_parts g parts tables (inl is_and) = ap (λ g. formula_fits schema g tables) is_and ∙ fits_and parts tables
+  fits_parts g parts tables (inr is_or) = ap (λ g. formula_fits schema g tables) is_or ∙ fits_or parts tables
 
   pub fits_exists : (table : ℕ) (body : Formula) (tables : List ℕ) →
       formula_fits schema (f.Exists table body) tables ≡ (is_table table && formula_fits schema body (tables ++ table ∷ []))

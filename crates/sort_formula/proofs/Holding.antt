@@ -15,11 +15,11 @@ use Rattle.sort_formula.proofs.Lists.{any_map}
 
 module _ (db : Database) where
   -- what a formula means, by its outermost layer
-  abbrev pub layer_holds : Formula-F Formula → Meaning
-  layer_holds layer = formula_step db (map-Formula Formula Meaning (holds db) layer)
+  abbrev pub layer_holds : Formula-F Formula → Meaning db
+  layer_holds layer = formula_step db (map-Formula Formula (Meaning db) (holds db) layer)
 
   holds_out : (g : Formula) (rows : List Place) → holds db g rows ≡ layer_holds (out-Formula g) rows
-  holds_out g rows = ap (λ (m : Meaning). m rows) (fold_out-Formula Meaning (formula_step db) g)
+  holds_out g rows = ap (λ (m : Meaning db). m rows) (fold_out-Formula (Meaning db) (formula_step db) g)
 
   pub holds_atom : (a : Atom) (rows : List Place) → holds db (f.Atom a) rows ≡ atom_holds db rows a
   holds_atom a rows = holds_out (f.Atom a) rows ∙ ap (λ layer. layer_holds layer rows) (f.outs-Atom a)
@@ -27,12 +27,12 @@ module _ (db : Database) where
   pub holds_and : (parts : List Formula) (rows : List Place) → holds db (f.And parts) rows ≡ list_all (λ g. holds db g rows) parts
   holds_and parts rows =
       holds_out (f.And parts) rows
-      ∙ (ap (λ layer. layer_holds layer rows) (f.outs-And parts) ∙ list_all-map (λ (m : Meaning). m rows) (holds db) parts)
+      ∙ (ap (λ layer. layer_holds layer rows) (f.outs-And parts) ∙ list_all-map (λ (m : Meaning db). m rows) (holds db) parts)
 
   pub holds_or : (parts : List Formula) (rows : List Place) → holds db (f.Or parts) rows ≡ list_any (λ g. holds db g rows) parts
   holds_or parts rows =
       holds_out (f.Or parts) rows
-      ∙ (ap (λ layer. layer_holds layer rows) (f.outs-Or parts) ∙ any_map (holds db) (λ (m : Meaning). m rows) parts)
+      ∙ (ap (λ layer. layer_holds layer rows) (f.outs-Or parts) ∙ any_map (holds db) (λ (m : Meaning db). m rows) parts)
 
   pub holds_exists : (table : ℕ) (body : Formula) (rows : List Place) →
       holds db (f.Exists table body) rows ≡ list_any (λ place. holds db body (rows ++ place ∷ [])) (places_of db table)

@@ -4,5 +4,5 @@ mod Standing
 mod Fitting
 mod Below
 mod Cells
-mod Negation
+mod Complements
 mod Renaming

@@ -41,8 +41,12 @@ slice_get_front (x' ∷ xs) ys zero x at = at
 slice_get_front (x' ∷ xs) ys (suc i) x at = slice_get_front xs ys i x at
 
 pub slice_get_past : {A : Type 0} (xs ys : List A) (i : ℕ) → slice_get (xs ++ ys) (length xs + i) ≡ slice_get ys i
-slice_get_past [] ys i = refl
-slice_get_past (x ∷ xs) ys i = slice_get_past xs ys i
+slice_get_past [] ys i =
+    let none : 0 + i ≡ i = omega arith in
+    ap (slice_get ys) none
+slice_get_past (x ∷ xs) ys i =
+    let one : length (x ∷ xs) + i ≡ suc (length xs + i) = omega arith in
+    ap (slice_get (x ∷ (xs ++ ys))) one ∙ slice_get_past xs ys i
 
 pub slice_get_within : {A : Type 0} (xs ys : List A) (i : ℕ) → i < length xs → slice_get (xs ++ ys) i ≡ slice_get xs i
 slice_get_within [] ys i low = absurd (omega arith)

@@ -14,6 +14,8 @@ mod negation;
 mod outside;
 mod placing;
 mod sentence;
+#[cfg(test)]
+mod tests;
 
 pub use formula::{Atom, Formula, Side};
 pub use laws::{negation_complements, placing_renames};

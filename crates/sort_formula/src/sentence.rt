@@ -22,7 +22,7 @@ impl Model for Sentence {
     ghost use Rattle.sort_formula.specs.declared.formula.Formula.{Formula};
     ghost use Rattle.sort_formula.specs.Sentences.{is_sentence};
     ghost use Rattle.std.specs.Coded.{codes};
-    ghost use Rattle.sort_formula.specs.contracts.formula.Formula as formula;
+    ghost use Rattle.sort_formula.specs.contracts.formula.Formula as tree;
 
     ghost Value = { Formula };
 
@@ -31,7 +31,7 @@ impl Model for Sentence {
     ghost invariant = { λ s. is_sentence s.formula ≡ true };
 
     // a code for each formula tells two of them apart
-    ghost coded = { Prim.hlevel (codes, formula.the_row.coded) };
+    ghost coded = { Prim.hlevel (codes, tree.the_row.coded) };
 }
 
 impl Sentence {

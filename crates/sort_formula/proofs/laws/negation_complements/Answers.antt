@@ -1,4 +1,4 @@
-use Rattle.sort_formula.proofs.Negation.{complements}
+use Rattle.sort_formula.proofs.Complements.{complements}
 use Rattle.sort_formula.proofs.laws.negation_complements.Goals as goal
 
 pub returns : goal.returns

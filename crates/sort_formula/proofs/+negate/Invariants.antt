@@ -1,6 +1,0 @@
-use Rattle.std.proofs.Common.{◌≡◌, take, map}
-use Rattle.sort_formula.specs.Negated.{negated}
-use Rattle.sort_formula.proofs.+negate.Given as goal
-
-abbrev pub invariant-negation::negate_parts-loop-part : goal.invariant-negation::negate_parts-loop-part
-invariant-negation::negate_parts-loop-part l = l.negations ≡ map negated (take l.part-index l.parts)
