@@ -8,10 +8,7 @@ ghost use Rattle.sort_formula.specs.Standing.{tables_outside};
 pub(crate) enum Outside<'a> {
     Nothing,
     /// A quantifier over the table, inside others.
-    Quantifier {
-        table: u32,
-        outer: &'a Outside<'a>,
-    },
+    Quantifier { table: u32, outer: &'a Outside<'a> },
 }
 
 impl Outside<'_> {

@@ -126,12 +126,7 @@ fn place_parts(
 /// The formula in another place: a variable outside it has its number in `map`, which has one for each quantifier
 /// outside the formula, and the formula's own quantifiers are counted from `depth` on. `NoMemory` where there is
 /// no memory for all of it.
-pub fn place(
-    alloc: Global,
-    formula: &Formula,
-    map: &[u32],
-    depth: u32,
-) -> Result<Formula, NoMemory>
+pub fn place(alloc: Global, formula: &Formula, map: &[u32], depth: u32) -> Result<Formula, NoMemory>
     requires variables { is_placed_from (length map.now) formula.now ≡ true }
     requires depth { depth + quantifiers formula.now < 2 ^ 32 }
     ensures { IfOk result (λ f. f ≡ placed map.now depth formula.now) }

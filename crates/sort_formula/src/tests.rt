@@ -45,11 +45,13 @@ fn both(alloc: Global, one: Formula, other: Formula) -> Result<Formula, NoMemory
 /// The bound of a difference of 0 and the number cell.
 fn bound_of_opposite(formula: &Formula) -> Option<i128> {
     match formula {
-        Formula::Atom(Atom::Le {
-            left: Side::Zero,
-            right: Side::Cell { row: 0, column: 0 },
-            most,
-        }) => Some(*most),
+        Formula::Atom(
+            Atom::Le {
+                left: Side::Zero,
+                right: Side::Cell { row: 0, column: 0 },
+                most,
+            },
+        ) => Some(*most),
         _ => None,
     }
 }
@@ -107,7 +109,11 @@ fn sentences_are_bound(rt: HostRuntime) -> Result<(), Fail> {
         (-BOUND, Some(2)),
         (-BOUND - 1, None),
     ] {
-        assert_eq!(rt; nodes(exists(alloc, 0, at_most(NUMBER, most))?), count, "{most}");
+        assert_eq!(rt;
+            nodes(exists(alloc, 0, at_most(NUMBER, most))?),
+            count,
+            "{most}"
+        );
     }
     for (table, count) in [(0, Some(3)), (1, None)] {
         let inside = exists(alloc, table, same(0, 1))?;

@@ -7,5 +7,5 @@ use Rattle.sort_formula.proofs.+nodes.Given as goal
 abbrev pub invariant-sentence::nodes_of_all-loop-part : goal.invariant-sentence::nodes_of_all-loop-part
 invariant-sentence::nodes_of_all-loop-part l = record {
   within : l.count ≤ 2 ^ 64 - 1;
-  total : min (l.count + sum (map nodes (drop l.part-index l.parts))) (2 ^ 64 - 1) ≡ min (sum (map nodes l.parts)) (2 ^ 64 - 1)
+  total : min (l.count + sum (map nodes (drop l.part-index l.parts))) (2 ^ 64 - 1) ≡ min (sum (map nodes l.parts)) (2 ^ 64 - 1);
 }
