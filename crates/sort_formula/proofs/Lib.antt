@@ -1,1 +1,8 @@
-
+mod Lists
+pub mod Holding
+mod Standing
+mod Fitting
+mod Below
+mod Cells
+mod Complements
+mod Renaming

@@ -2,10 +2,23 @@
 //!
 //! The layer above may use the types, `negate`, `place`, `Sentence` and its calls, and the copies. Of `specs/`
 //! a reader must believe `Holds` (when a formula holds), `Negated` and `Placed` (what `negate` and `place`
-//! make), `Sentences` (what a sentence is) and `Nodes`. The laws `negation_complements` and `placing_renames`
-//! say what `negate` and `place` are for.
+//! make), `Variables` (`is_placed_from`: what `place` takes), `Sentences` (what a sentence is) and `Nodes`. The laws
+//! `negation_complements` and `placing_renames` say what `negate` and `place` are for.
 #![tactic(auto)]
 
+mod copies;
+mod fits;
 mod formula;
+mod laws;
+mod negation;
+mod outside;
+mod placing;
+mod sentence;
+#[cfg(test)]
+mod tests;
 
 pub use formula::{Atom, Formula, Side};
+pub use laws::{negation_complements, placing_renames};
+pub use negation::negate;
+pub use placing::place;
+pub use sentence::Sentence;
