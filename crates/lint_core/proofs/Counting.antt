@@ -1,21 +1,19 @@
 -- The scalar subqueries, the NOT IN subqueries that select a column and the predicates of a condition are as many as
 -- they are counted layer by layer.
-use Rattle.std.proofs.Common.{◌≡◌, ◌∙◌, refl, sym, ap, ap₂, subst, add-one, ℕ, suc, ◌+◌, Bool, true, false, ◌&&◌, List, [], ◌∷◌, ◌++◌, length, map, arith}
+use Rattle.std.proofs.Common.{◌≡◌, ◌∙◌, refl, sym, ap, ap₂, subst, add-one, ℕ, suc, ◌+◌, Bool, true, false, ◌&&◌, List, [], ◌∷◌, ◌++◌, length, map}
 use Rattle.std.proofs.lemmas.List.{length-append}
 use Rattle.std.proofs.lemmas.List.Sums.{sum_by-cons}
 use Rattle.std.specs.Prelude.{sum, if◌then◌else◌}
-use Rattle.lint_base.specs.declared.place.Span.{Span}
-use Rattle.lint_core.specs.declared.condition.Term.{Term}
 use Rattle.lint_core.specs.declared.condition.Cond.{Cond, ind-Cond, roll-Cond, fold-Cond, fold-roll-Cond, map-Cond}
 use Rattle.lint_core.specs.declared.condition.Cond.TheVariants as cond
 use Rattle.lint_core.specs.declared.condition.Cond.TheOpen.{Cond-F, Block-F}
-use Rattle.lint_core.specs.declared.condition.Block.{Block, out-Block, roll-Block, fold-Block, fold-roll-Block, map-Block}
+use Rattle.lint_core.specs.declared.condition.Block.{Block, roll-Block, fold-Block, fold-roll-Block, map-Block}
 use Rattle.lint_core.specs.Counts.{scalars_step, count_scalars, not_ins_step, count_not_ins, predicates_step, count_predicates}
 use Rattle.lint_core.specs.Fits.{tables_of}
 use Rattle.lint_core.specs.Parts.{With, described, cond_itself, block_itself}
 use Rattle.lint_core.specs.Predicates.{Replaceable, predicates}
 use Rattle.lint_core.specs.Predicates as predicates
-use Rattle.lint_core.specs.Subqueries.{Subquery, Listing, is_column, in_parts, block_step, scalar_step, not_in_step, scalar_subqueries, not_in_subqueries}
+use Rattle.lint_core.specs.Subqueries.{Listing, is_column, in_parts, block_step, scalar_step, not_in_step, scalar_subqueries, not_in_subqueries}
 
 -- ---- a relation between what a condition is described by and its count holds where each layer keeps it
 

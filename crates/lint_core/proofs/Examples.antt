@@ -18,11 +18,11 @@ use Rattle.lint_core.specs.Examples.{nowhere, number, the_column, from_first, nu
 use Rattle.lint_core.proofs.Conditions.{block_truth, layer_truth, truth_out, block_truth_is, truth_compare, truth_and, truth_false, truth_exists, truth_in, truth_scalar}
 
 module _ (db : Database) where
-  everywhere_true : truth db c.True ≡ (λ tables binding. Ok True)
+  pub everywhere_true : truth db c.True ≡ (λ tables binding. Ok True)
   everywhere_true = truth_out db c.True ∙ ap (layer_truth db) c.outs-True
 
   -- the inner bindings of a subquery of the first table
-  first_bindings : (cond : Cond) (meaning : Meaning) → truth db cond ≡ meaning → block_truth db (from_first cond) ≡ record { place = nowhere; bindings = inner_bindings db (0 ∷ []) meaning }
+  pub first_bindings : (cond : Cond) (meaning : Meaning) → truth db cond ≡ meaning → block_truth db (from_first cond) ≡ record { place = nowhere; bindings = inner_bindings db (0 ∷ []) meaning }
   first_bindings cond meaning is =
       block_truth_is db (from_first cond)
       ∙ (ap (λ (b : Block-F Cond Block). record { place = b.span; bindings = inner_bindings db (map (λ (e : Entry). e.table) b.entries) (truth db b.cond) })

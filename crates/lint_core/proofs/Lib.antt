@@ -21,4 +21,9 @@ mod Levels
 mod Fitting
 mod PlainWords
 mod FirstForms
+mod MeaningLaws
+mod MeaningLawsSubqueries
+mod MeaningLawsDistinct
+mod MeaningLawsRows
 mod Examples
+mod QuestionExamples

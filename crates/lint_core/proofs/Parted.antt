@@ -1,15 +1,16 @@
 -- What each kind of condition is by its parts: its conjuncts, its predicates, the condition with one replaced, and
 -- its subqueries.
-use Rattle.std.proofs.Common.{◌≡◌, ◌∙◌, refl, sym, ap, ap₂, subst, ℕ, zero, suc, ◌-◌, Bool, ◌&&◌, List, [], ◌∷◌, ◌++◌, length, map, nat_lt, if◌then◌else◌, cond}
+use Rattle.std.proofs.Common.{◌≡◌, ◌∙◌, refl, sym, ap, ap₂, subst, ℕ, zero, suc, ◌+◌, ◌-◌, ◌≤◌, Bool, ◌&&◌, List, [], ◌∷◌, ◌++◌, length, map, nat_lt, if◌then◌else◌, arith, length-append}
+use Rattle.std.proofs.lemmas.Bool.Decides.{nat_tests}
 use Rattle.std.proofs.lemmas.List.Folds.{flat_map-map}
 use Rattle.std.specs.List.{flat_map}
 use Rattle.lint_base.specs.declared.place.Span.{Span}
 use Rattle.lint_tables.specs.declared.op.Op.{Op}
 use Rattle.lint_core.specs.declared.condition.Term.{Term}
-use Rattle.lint_core.specs.declared.condition.Cond.{Cond, ind-Cond, roll-Cond, map-Cond}
+use Rattle.lint_core.specs.declared.condition.Cond.{Cond, ind-Cond, out-Cond, roll-Cond, roll-out-Cond, map-Cond}
 use Rattle.lint_core.specs.declared.condition.Cond.TheVariants as c
 use Rattle.lint_core.specs.declared.condition.Cond.TheOpen.{Cond-F, Block-F}
-use Rattle.lint_core.specs.declared.condition.Block.{Block, out-Block, roll-Block, map-Block}
+use Rattle.lint_core.specs.declared.condition.Block.{Block, out-Block, roll-Block, roll-out-Block, map-Block}
 use Rattle.lint_core.specs.Parts.{With, described, cond_itself}
 use Rattle.lint_core.specs.Fits.{tables_of}
 use Rattle.lint_core.specs.Conjuncts.{conjuncts_step, conjuncts}
@@ -61,6 +62,15 @@ conjuncts_in term block item negated span = conjuncts_out (c.In term block item 
 
 pub conjuncts_scalar : (op : Op) (left : Term) (block : Block) (item : Term) (span : Span) → conjuncts (c.Scalar op left block item span) ≡ c.Scalar op left block item span ∷ []
 conjuncts_scalar op left block item span = conjuncts_out (c.Scalar op left block item span) (Cond-F.Scalar op left block item span) (c.rolls-Scalar op left block item span) ∙ alone_out (c.Scalar op left block item span) (Cond-F.Scalar op left block item span) (c.rolls-Scalar op left block item span)
+
+other_out : (layer : Cond-F Cond Block) → ((parts : List Cond) → roll-Cond layer ≡ c.And parts → ⊥) → conjuncts (roll-Cond layer) ≡ roll-Cond layer ∷ []
+other_out (Cond-F.And parts) differs = absurd (differs parts (c.rolls-And parts))
+other_out layer differs = conjuncts_out (roll-Cond layer) layer refl ∙ alone_out (roll-Cond layer) layer refl
+
+pub conjuncts_other : (cond : Cond) → ((parts : List Cond) → cond ≡ c.And parts → ⊥) → conjuncts cond ≡ cond ∷ []
+conjuncts_other cond differs =
+    let made = roll-out-Cond cond in
+    subst (λ z. conjuncts z ≡ z ∷ []) made (other_out (out-Cond cond) (λ parts is. differs parts (sym made ∙ is)))
 
 -- predicates, and the condition with one replaced
 abbrev CondWith : Type 0
@@ -240,6 +250,76 @@ module _ (by : Cond) where
 
   pub replaced_in_subquery : (n : ℕ) (term : Term) (block : Block) (item : Term) (negated : Bool) (span : Span) → with_replaced by n (c.In term block item negated span) ≡ first_or by (λ m. c.In term (block_replaced m block) item negated span) n
   replaced_in_subquery n term block item negated span = replaced_out by n (c.In term block item negated span) (Cond-F.In term block item negated span) (c.rolls-In term block item negated span) ∙ around_replaced n (λ b. c.In term b item negated span) block
+
+  -- where there are too few predicates, nothing is replaced
+  abbrev Kept : Cond → Type 0
+  Kept cond = (n : ℕ) → length (predicates cond) ≤ n → with_replaced by n cond ≡ cond
+
+  abbrev KeptBlock : Block → Type 0
+  KeptBlock block = Kept (out-Block block).cond
+
+  abbrev KeptPart : Type 0
+  KeptPart = (cond : Cond) × Kept cond
+
+  abbrev KeptInside : Type 0
+  KeptInside = (block : Block) × KeptBlock block
+
+  abbrev kept_part : Cond-F KeptPart KeptInside → Cond-F Cond Block
+  kept_part = map-Cond KeptPart KeptInside Cond Block (λ e. e.0) (λ e. e.0)
+
+  not_first : (n k : ℕ) (found others : List Cond) → k ≤ n → (if nat_lt n k then found else others) ≡ others
+  not_first n k found others few = grind (arith, nat_tests)
+
+  parts_kept : (parts : List KeptPart) (n : ℕ) → length (flat_map predicates (map (λ (e : KeptPart). e.0) parts)) ≤ n →
+      replaced_among (map (λ (e : KeptPart). e.0) parts) n ≡ map (λ (e : KeptPart). e.0) parts
+  parts_kept [] n few = refl
+  parts_kept (part ∷ parts) n few =
+      let others = map (λ (e : KeptPart). e.0) parts in
+      let count : length (predicates part.0 ++ flat_map predicates others) ≡ length (predicates part.0) + length (flat_map predicates others) = length-append (predicates part.0) (flat_map predicates others) in
+      not_first n (length (predicates part.0)) (with_replaced by n part.0 ∷ others) (part.0 ∷ replaced_among others (n - length (predicates part.0))) (omega arith)
+      ∙ ap (λ (xs : List Cond). part.0 ∷ xs) (parts_kept parts (n - length (predicates part.0)) (omega arith))
+
+  alone_kept : (n : ℕ) (cond : Cond) (span : Span) → predicates cond ≡ span ∷ [] → with_replaced by n cond ≡ first_or by (λ m. cond) n → length (predicates cond) ≤ n → with_replaced by n cond ≡ cond
+  alone_kept zero cond span places replaced few =
+      let one : length (predicates cond) ≡ 1 = ap length places in
+      absurd (omega arith)
+  alone_kept (suc n) cond span places replaced few = replaced
+
+  around_kept : (n : ℕ) (outside : Block → Cond) (block : Block) (span : Span) → KeptBlock block →
+      predicates (outside block) ≡ span ∷ predicates (out-Block block).cond →
+      with_replaced by n (outside block) ≡ first_or by (λ m. outside (block_replaced m block)) n →
+      length (predicates (outside block)) ≤ n → with_replaced by n (outside block) ≡ outside block
+  around_kept zero outside block span inside places replaced few =
+      let more : length (predicates (outside block)) ≡ suc (length (predicates (out-Block block).cond)) = ap length places in
+      absurd (omega arith)
+  around_kept (suc n) outside block span inside places replaced few =
+      let more : length (predicates (outside block)) ≡ suc (length (predicates (out-Block block).cond)) = ap length places in
+      replaced ∙ ap outside (ap (λ (cond : Cond). roll-Block (record { entries = (out-Block block).entries; cond = cond; span = (out-Block block).span })) (inside n (omega arith)) ∙ roll-out-Block block)
+
+  kept_layer : (y : Cond-F KeptPart KeptInside) → Kept (roll-Cond (kept_part y))
+  kept_layer Cond-F.True = subst Kept (sym c.rolls-True) (λ n few. replaced_true n)
+  kept_layer Cond-F.False = subst Kept (sym c.rolls-False) (λ n few. replaced_false n)
+  kept_layer (Cond-F.And parts) =
+      let ps = map (λ (e : KeptPart). e.0) parts in
+      subst Kept (sym (c.rolls-And ps)) (λ n few. replaced_and n ps ∙ ap c.And (parts_kept parts n (subst (λ (places : List Span). length places ≤ n) (predicates_and ps) few)))
+  kept_layer (Cond-F.Or parts) =
+      let ps = map (λ (e : KeptPart). e.0) parts in
+      subst Kept (sym (c.rolls-Or ps)) (λ n few. replaced_or n ps ∙ ap c.Or (parts_kept parts n (subst (λ (places : List Span). length places ≤ n) (predicates_or ps) few)))
+  kept_layer (Cond-F.Not part) =
+      subst Kept (sym (c.rolls-Not part.0)) (λ n few. replaced_not n part.0 ∙ ap c.Not (part.1 n (subst (λ (places : List Span). length places ≤ n) (predicates_not part.0) few)))
+  kept_layer (Cond-F.Compare op left right span) =
+      subst Kept (sym (c.rolls-Compare op left right span)) (λ n few. alone_kept n (c.Compare op left right span) span (predicates_compare op left right span) (replaced_compare n op left right span) few)
+  kept_layer (Cond-F.IsNull term negated span) =
+      subst Kept (sym (c.rolls-IsNull term negated span)) (λ n few. alone_kept n (c.IsNull term negated span) span (predicates_is_null term negated span) (replaced_is_null n term negated span) few)
+  kept_layer (Cond-F.Scalar op left block item span) =
+      subst Kept (sym (c.rolls-Scalar op left block.0 item span)) (λ n few. alone_kept n (c.Scalar op left block.0 item span) span (predicates_scalar op left block.0 item span) (replaced_scalar n op left block.0 item span) few)
+  kept_layer (Cond-F.Exists block span) =
+      subst Kept (sym (c.rolls-Exists block.0 span)) (λ n few. around_kept n (λ b. c.Exists b span) block.0 span block.1 (predicates_exists block.0 span) (replaced_exists n block.0 span) few)
+  kept_layer (Cond-F.In term block item negated span) =
+      subst Kept (sym (c.rolls-In term block.0 item negated span)) (λ n few. around_kept n (λ b. c.In term b item negated span) block.0 span block.1 (predicates_in term block.0 item negated span) (replaced_in_subquery n term block.0 item negated span) few)
+
+  pub replaced_kept : (cond : Cond) → Kept cond
+  replaced_kept = ind-Cond Kept KeptBlock (λ x y is. subst (λ z. Kept (roll-Cond z)) is (kept_layer y)) (λ x y is. subst (λ z. KeptBlock (roll-Block z)) is y.cond.1)
 
 -- subqueries
 module _ (step : Cond-F sub.CondPart sub.BlockPart → Listing) where

@@ -1,6 +1,6 @@
 -- How many scalar subqueries, NOT IN subqueries that select a column, and predicates a condition has, layer by
 -- layer: the lengths of the lists in `Subqueries` and `Predicates`.
-use Rattle.std.specs.Prelude.{ℕ, ◌+◌, Bool, ◌&&◌, sum, if◌then◌else◌}
+use Rattle.std.specs.Prelude.{ℕ, ◌+◌, ◌&&◌, sum, if◌then◌else◌}
 use Rattle.lint_core.specs.declared.condition.Cond.{Cond, fold-Cond}
 use Rattle.lint_core.specs.declared.condition.Cond.TheOpen.{Cond-F}
 use Rattle.lint_core.specs.Subqueries.{is_column}

@@ -1,6 +1,7 @@
--- Small examples of what SQL means, for the laws `worked_truths` and `worked_constraints`: conditions over a
--- first table of one column, and tables of one column with one constraint each.
-use Rattle.std.specs.Prelude.{ℕ, pos, neg_ℤ, true, false, List, [], ◌∷◌, map}
+-- Small examples of what SQL means, for the laws `worked_truths`, `worked_constraints`, `worked_asking` and `worked_refuting`:
+-- conditions over a first table of one column, tables of one column with one constraint each, and queries of
+-- such tables.
+use Rattle.std.specs.Prelude.{ℕ, pos, neg_ℤ, true, false, List, [], ◌∷◌, map, Option, Some, None}
 use Rattle.lint_base.specs.declared.place.Span.{Span}
 use Rattle.lint_tables.specs.declared.op.Op.TheVariants.{Eq, Gt}
 use Rattle.lint_core.specs.declared.condition.Term.{Term}
@@ -9,6 +10,9 @@ use Rattle.lint_core.specs.declared.condition.Block.{Block, roll-Block}
 use Rattle.lint_core.specs.declared.condition.Cond.{Cond}
 use Rattle.lint_core.specs.declared.condition.Cond.TheVariants as c
 use Rattle.lint_core.specs.declared.database.Value.{Value}
+use Rattle.lint_core.specs.declared.database.Binding.{Binding}
+use Rattle.lint_core.specs.declared.query.Item.{Item}
+use Rattle.lint_core.specs.declared.query.Query.{Query}
 use Rattle.lint_core.specs.declared.database.Database.{Database}
 use Rattle.lint_core.specs.declared.schema.Unit.TheVariants.{Whole}
 use Rattle.lint_core.specs.declared.schema.Domain.TheVariants.{Number}
@@ -84,3 +88,59 @@ abbrev pub referring : List Table
 referring =
     table [] [] (record { columns = 0 ∷ []; target = 1; target_columns = 0 ∷ [] } ∷ [])
     ∷ table (record { columns = 0 ∷ [] } ∷ []) [] [] ∷ []
+
+-- ---- queries of the first table, at level 0, and what is selected from it one level further in
+
+-- the column, written, or from `*`
+abbrev pub written : Item
+written = record { term = the_column; star = false; span = nowhere }
+
+abbrev pub starred : Item
+starred = record { term = the_column; star = true; span = nowhere }
+
+-- the column of the first entry of a subquery
+abbrev pub inner_column : Term
+inner_column = term.Cell 1 0 0 (pos 0)
+
+abbrev pub query : Option Span → Item → Block → Query
+query distinct item block = record { distinct = distinct; items = item ∷ []; block = block; order = [] }
+
+-- `SELECT * FROM the first table`
+abbrev pub select_star : Query
+select_star = query None starred (from_first c.True)
+
+-- `SELECT DISTINCT the column FROM the first table`
+abbrev pub select_distinct : Query
+select_distinct = query (Some nowhere) written (from_first c.True)
+
+-- `SELECT the column FROM the first table WHERE the column = 1`
+abbrev pub where_one : Query
+where_one = query None written (from_first (c.Compare Eq the_column (number 1) nowhere))
+
+-- `.. WHERE the column > (SELECT the column FROM the first table)`
+abbrev pub above_the_row : Query
+above_the_row = query None written (from_first (c.Scalar Gt the_column (from_first c.True) inner_column nowhere))
+
+-- `.. WHERE the column NOT IN (SELECT the column FROM the first table)`
+abbrev pub not_among : Query
+not_among = query None written (from_first (c.In the_column (from_first c.True) inner_column true nowhere))
+
+-- `FROM` the first table and the table of this number `WHERE` the condition
+abbrev pub from_two : ℕ → Cond → Block
+from_two other cond = roll-Block (record {
+  entries = record { table = 0; name = []; span = nowhere } ∷ record { table = other; name = []; span = nowhere } ∷ [];
+  cond = cond;
+  span = nowhere;
+})
+
+-- `SELECT its column FROM the first table, the second WHERE the two columns are equal`
+abbrev pub joined : Query
+joined = query None written (from_two 1 (c.Compare Eq the_column (term.Cell 0 1 0 (pos 0)) nowhere))
+
+-- `SELECT its column FROM the first table, the first table`
+abbrev pub twice : Query
+twice = query None written (from_two 0 c.True)
+
+-- the rows of each level
+abbrev pub rows : List (List ℕ) → Binding
+rows levels = record { levels = levels }

@@ -27,4 +27,7 @@ pub mod Formula
 pub mod Translation
 pub mod Certificate
 pub mod Answer
+pub mod Connectives
+pub mod SubqueryValues
+pub mod SameRows
 pub mod Examples

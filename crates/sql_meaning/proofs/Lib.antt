@@ -1,5 +1,11 @@
 mod Gathered
 mod Standing
 mod Steps
+mod TableSizes
 mod Truths
+mod ViolationsFound
+mod ViolationsMet
 mod Weights
+mod ReplacedParts
+mod Reached
+mod Sought

@@ -1,5 +1,5 @@
 -- The kinds of conditions with a subquery, by what it selects; and how an answer goes on from a part's answer.
-use Rattle.std.proofs.Common.{◌≡◌, ◌∙◌, ap, refl, subst, sym, ℕ, Bool, List, []}
+use Rattle.std.proofs.Common.{◌≡◌, ◌∙◌, ap, refl, subst, ℕ, Bool, List}
 use Rattle.std.specs.Prelude.{Result, Ok, Err}
 use Rattle.lint_base.specs.declared.place.Span.{Span}
 use Rattle.lint_core.proofs.Conditions.{block_truth_is, truth_exists, truth_in, truth_scalar}

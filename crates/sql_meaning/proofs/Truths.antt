@@ -1,5 +1,5 @@
 -- AND and OR of a list from the left, also where parts have no truth.
-use Rattle.std.proofs.Common.{◌≡◌, refl, ap, List, [], ◌∷◌}
+use Rattle.std.proofs.Common.{◌≡◌, refl, ap, List, ◌∷◌}
 use Rattle.std.specs.Prelude.{Ok, Err}
 use Rattle.lint_core.specs.Evaluation.{Evaluated, map_ok, all_ok}
 use Rattle.lint_core.specs.Truth.{least, greatest, and_of, or_of}

@@ -1,6 +1,6 @@
 -- A measure of conditions and blocks under which the evaluation ends: it goes down into parts, and through the
 -- entries of a block.
-use Rattle.std.proofs.Common.{◌≡◌, ◌∙◌, ◌+◌, ap, ℕ, Bool, List, length, map}
+use Rattle.std.proofs.Common.{◌≡◌, ◌∙◌, ◌+◌, ap, ℕ, Bool, List, length}
 use Rattle.std.proofs.lemmas.List.Sums.{sum-map}
 use Rattle.std.specs.List.{sum_by}
 use Rattle.std.specs.Prelude.{sum}

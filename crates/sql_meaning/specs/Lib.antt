@@ -3,3 +3,6 @@ pub mod Seen
 pub mod Standing
 pub mod Stops
 pub mod Violations
+pub mod Behind
+pub mod Replacing
+pub mod Reached

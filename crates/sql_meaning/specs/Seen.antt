@@ -1,5 +1,5 @@
 -- The value that an evaluation sees. Nothing here has to be believed: no public contract says it.
-use Rattle.std.specs.Prelude.{ℕ, List, Option, Some, None, map}
+use Rattle.std.specs.Prelude.{List, Option, Some, None, map}
 use Rattle.std.specs.Borrow.{Bor}
 use Rattle.lint_core.specs.declared.database.Value.{Value}
 use Rattle.lint_core.specs.declared.database.Value.TheVariants as value

@@ -1,15 +1,25 @@
 //! What SQL means, by running it: whether a database meets a schema, the truth of a condition at a binding,
 //! and whether points refute a question.
 //!
-//! The layer above may use `meets`, `truth`, `fails_at` and `TruthStop`. Of `specs/` a reader must believe
-//! `Violations` (in which order violations come) and `Stops` (what an answer says); the rest is defined in
-//! lint_core.
+//! The layer above may use `meets`, `truth`, `fails_at` and `TruthStop`, and the walks over a condition,
+//! `conjuncts`, `replaced`, `scalar_subquery` and `not_in_subquery`. Of `specs/` a reader must believe
+//! `Violations` (in which order violations come) and `Stops` (what an answer says), and for the walks `Behind`,
+//! `subquery_of` in `Reached` and `constant` in `Replacing`; the rest is defined in lint_core.
 #![tactic(auto)]
 
+mod conjunction;
+mod database_meets;
 mod evaluation;
 mod levels;
+mod replacing;
 mod stop;
+mod subqueries;
 mod value;
+mod violation;
 
+pub use conjunction::conjuncts;
+pub use database_meets::{meets, violations_are_failures};
 pub use evaluation::truth;
+pub use replacing::replaced;
 pub use stop::TruthStop;
+pub use subqueries::{Subquery, not_in_subquery, scalar_subquery};

@@ -6,9 +6,7 @@ use std::alloc::{AllocError, AllocFailed};
 #[derive(Clone, Copy, Debug, PartialEq, Eq)]
 pub enum TruthStop {
     /// The scalar subquery at this place gives two rows.
-    TwoRows {
-        span: Span,
-    },
+    TwoRows { span: Span },
     /// Memory ran out.
     NoMemory,
 }

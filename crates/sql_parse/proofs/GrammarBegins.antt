@@ -8,7 +8,7 @@ use Rattle.sql_tree.specs.declared.term.NameTree.{NameTree}
 use Rattle.sql_tree.specs.declared.term.TermTree.{TermTree}
 use Rattle.sql_tree.specs.declared.select.CondTree.{CondTree}
 use Rattle.sql_parse.specs.grammar.Words.{word, sign, NULL, NOT, EXISTS}
-use Rattle.sql_parse.specs.grammar.Terms.{SpellsTerm, SpellsValue, SpellsLiteral, SpellsSigned, SpellsColumn}
+use Rattle.sql_parse.specs.grammar.Terms.{SpellsTerm, SpellsValue, SpellsSigned, SpellsColumn}
 use Rattle.sql_parse.specs.grammar.Terms as term
 use Rattle.sql_parse.specs.grammar.Predicates as predicate
 use Rattle.sql_parse.specs.grammar.Predicates.{SpellsPredicate}

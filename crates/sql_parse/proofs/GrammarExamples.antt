@@ -17,7 +17,7 @@ use Rattle.sql_tree.specs.declared.schema.Element.TheVariants as element
 use Rattle.sql_tree.specs.declared.schema.RuleTree.TheVariants as rule
 use Rattle.sql_parse.specs.grammar.Words.{word, called, sign, number, span_of, AND, OR}
 use Rattle.sql_parse.specs.grammar.Names.{SpellsNames}
-use Rattle.sql_parse.specs.grammar.Terms.{SpellsTerm, SpellsValue, SpellsSigned, SpellsBareColumn, SpellsColumn}
+use Rattle.sql_parse.specs.grammar.Terms.{SpellsTerm, SpellsValue, SpellsBareColumn}
 use Rattle.sql_parse.specs.grammar.Terms as term
 use Rattle.sql_parse.specs.grammar.Predicates as predicate
 use Rattle.sql_parse.specs.grammar.Items as item

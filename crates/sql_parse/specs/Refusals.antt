@@ -1,8 +1,7 @@
 -- Which tokens are read as a query and as a schema, and why others are refused: a query is too long, parentheses
 -- are too deep, or the tokens are not in the grammar, in this order.
-use Rattle.std.specs.Prelude.{ℕ, suc, ◌-◌, ◌<◌, ◌≤◌, ◌≡◌, ◌⊎◌, nat_lt, if◌then◌else◌, List, [], ◌∷◌, ◌++◌, length, Option, Some, None}
+use Rattle.std.specs.Prelude.{ℕ, suc, ◌-◌, ◌≤◌, ◌≡◌, ◌⊎◌, nat_lt, if◌then◌else◌, List, [], ◌∷◌, ◌++◌, length, Option, Some, None}
 use Rattle.lint_base.specs.declared.place.Span.{Span}
-use Rattle.lint_base.specs.declared.place.Fault.{Fault}
 use Rattle.lint_base.specs.declared.place.Fault.TheVariants.{Long, Deep, Syntax}
 use Rattle.lint_base.specs.declared.place.Refusal.{Refusal}
 use Rattle.lint_base.specs.declared.place.TextStop.{TextStop}

@@ -3,6 +3,7 @@ pub mod Gives
 pub mod Operators
 pub mod Separated
 pub mod Leaves
+pub mod Stopped
 pub mod Terms
 pub mod Predicates
 pub mod Items

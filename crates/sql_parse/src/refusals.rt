@@ -1,7 +1,8 @@
 //! Why tokens are refused, and where.
 ghost use Rattle.std.specs.Prelude.{◌≡◌, ◌<◌, ◌≤◌, ◌^◌, length, IfSome, IsNone};
 ghost use Rattle.lint_base.specs.declared.place.Fault.TheVariants as fault;
-ghost use Rattle.sql_parse.specs.Refusals.{open_after, too_deep, IsPlace, IsNoQuery};
+ghost use Rattle.sql_parse.specs.Refusals.{open_after, too_deep, IsNoQuery};
+ghost use Rattle.sql_parse.specs.reading.Stopped.{stopped_at};
 
 use crate::front::end_of;
 use lint_base::{Fault, Refusal, Span};
@@ -67,7 +68,7 @@ pub(crate) fn deep_at(span: Span) -> Refusal
 
 /// The place of the first of the last `left` tokens, or the empty one behind the last token.
 fn place_of(tokens: &[Token], left: usize) -> Span
-    ensures { IsPlace tokens.now result }
+    ensures { result ≡ stopped_at tokens.now left }
 {
     match tokens.get(tokens.len().saturating_sub(left)) {
         Some(token) => token.span,
@@ -80,9 +81,7 @@ fn place_of(tokens: &[Token], left: usize) -> Span
 
 /// The refusal of tokens whose reading stopped before the last `left` of them.
 pub(crate) fn syntax_at(tokens: &[Token], left: usize) -> Refusal
-    ensures fault { result.fault ≡ fault.Syntax }
-    ensures place { IsPlace tokens.now result.span }
-    ensures count { result.count ≡ 0 }
+    ensures { result ≡ record { fault = fault.Syntax; span = stopped_at tokens.now left; count = 0 } }
 {
     Refusal {
         fault: Fault::Syntax,

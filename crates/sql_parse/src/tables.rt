@@ -1,5 +1,5 @@
 //! The readers of declarations of tables.
-ghost use Rattle.std.specs.Prelude.{◌≡◌, ℕ, false, [], ◌∷◌, ◌++◌, codes, IfOk, OnOk};
+ghost use Rattle.std.specs.Prelude.{◌≡◌, ℕ, false, [], ◌∷◌, ◌++◌, codes, IfOk, OnOk, OnErr};
 ghost use Rattle.sql_parse.specs.grammar.Tables.{last_end};
 ghost use Rattle.sql_parse.specs.reading.Tokens.{is_called, is_comma, at_head, read_after, read_separated};
 ghost use Rattle.sql_parse.specs.reading.Terms.{read_names};
@@ -387,7 +387,8 @@ fn at_rule(tokens: &[Token]) -> bool
 
 /// Adds the item, if there is one.
 pub(crate) fn add_optional<T: Drop>(items: &mut Items<T>, item: Option<T>) -> Result<(), NoMemory>
-    ensures { OnOk result (items.new ≡ items.old ++ alone item) }
+    ensures ok { OnOk result (items.new ≡ items.old ++ alone item) }
+    ensures err { OnErr result (items.new ≡ items.old) }
 {
     match item {
         Some(item) => items.push(item),

@@ -1,5 +1,4 @@
-use Rattle.std.proofs.Common.{◌≡◌, ◌∙◌, ap, sym}
-use Rattle.lint_core.specs.ScalarWithout.{has_scalar_without}
+use Rattle.std.proofs.Common.{◌∙◌, sym}
 use Rattle.lint_core.proofs.Alone.{without_and, without_alone, alone}
 use Rattle.lint_core.proofs.+scalar_without.Goals as goal
 

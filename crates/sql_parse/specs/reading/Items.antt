@@ -1,5 +1,5 @@
 -- The reading of what a SELECT begins with, and of the entries of FROM by themselves.
-use Rattle.std.specs.Prelude.{pos, Bool, true, false, if◌then◌else◌, List, [], ◌∷◌, Option, Some, None}
+use Rattle.std.specs.Prelude.{pos, Bool, if◌then◌else◌, List, [], ◌∷◌, Option, Some, None}
 use Rattle.lint_base.specs.declared.place.Span.{Span}
 use Rattle.sql_lex.specs.declared.token.Token.{Token}
 use Rattle.sql_tree.specs.declared.term.NameTree.{NameTree}

@@ -1,5 +1,5 @@
 -- The reading of predicates, from a reading of the subqueries. The tokens are those from the predicate's first on.
-use Rattle.std.specs.Prelude.{ℕ, Bool, true, false, if◌then◌else◌, List, [], ◌∷◌, Option, Some, None}
+use Rattle.std.specs.Prelude.{Bool, true, false, if◌then◌else◌, List, [], ◌∷◌, None}
 use Rattle.lint_tables.specs.declared.op.Op.{Op}
 use Rattle.sql_lex.specs.declared.token.Sign.TheVariants.{Compare as Operator}
 use Rattle.sql_lex.specs.declared.token.Kind.{Kind}

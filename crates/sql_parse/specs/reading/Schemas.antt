@@ -1,5 +1,5 @@
 -- The reading of a schema.
-use Rattle.std.specs.Prelude.{ℕ, Bool, if◌then◌else◌, List, [], ◌∷◌, ◌++◌, length, Option}
+use Rattle.std.specs.Prelude.{ℕ, if◌then◌else◌, List, [], ◌∷◌, ◌++◌, length, Option}
 use Rattle.sql_lex.specs.declared.token.Token.{Token}
 use Rattle.sql_tree.specs.declared.schema.CreateTable.{CreateTable}
 use Rattle.sql_parse.specs.grammar.Words.{CREATE}

@@ -1,5 +1,5 @@
 -- The reading of declarations of tables. What leaves nothing in the tree is read as false.
-use Rattle.std.specs.Prelude.{ℕ, ℤ, pos, Bool, true, false, if◌then◌else◌, List, [], ◌∷◌, Option, Some, None, codes}
+use Rattle.std.specs.Prelude.{ℕ, pos, Bool, true, false, if◌then◌else◌, List, [], ◌∷◌, None, codes}
 use Rattle.lint_base.specs.declared.place.Span.{Span}
 use Rattle.sql_lex.specs.declared.token.Kind.{Kind}
 use Rattle.sql_lex.specs.declared.token.Token.{Token}

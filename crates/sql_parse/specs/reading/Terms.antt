@@ -1,5 +1,5 @@
 -- The reading of names, values, columns and terms.
-use Rattle.std.specs.Prelude.{ℕ, ℤ, pos, neg_ℤ, int_le, Bool, if◌then◌else◌, List, [], ◌∷◌, Option, Some, None}
+use Rattle.std.specs.Prelude.{ℤ, pos, neg_ℤ, int_le, if◌then◌else◌, List, [], ◌∷◌, Option, Some, None}
 use Rattle.lint_base.specs.declared.place.Span.{Span}
 use Rattle.sql_lex.specs.declared.token.Sign.TheVariants.{Plus, Minus}
 use Rattle.sql_lex.specs.declared.token.Kind.{Kind}

@@ -5,7 +5,7 @@ use Rattle.std.specs.Str.{bytes_eq}
 use Rattle.lint_base.specs.declared.place.Span.{Span}
 use Rattle.sql_lex.specs.declared.token.Sign.TheVariants as sign
 use Rattle.sql_lex.specs.declared.token.Kind.{Kind}
-use Rattle.sql_lex.specs.declared.token.Kind.TheVariants.{Name, Reserved, Text, Number, Sign}
+use Rattle.sql_lex.specs.declared.token.Kind.TheVariants.{Name, Reserved, Sign}
 use Rattle.sql_lex.specs.declared.token.Token.{Token}
 use Rattle.sql_parse.specs.grammar.Words.{span_of}
 

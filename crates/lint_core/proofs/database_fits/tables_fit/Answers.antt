@@ -1,4 +1,4 @@
-use Rattle.std.proofs.Common.{◌≡◌, sym, Bool, true, false, refl, ◌&&◌, List, [], ◌∷◌, length, arith, suc, ap}
+use Rattle.std.proofs.Common.{◌≡◌, true, false, refl, ◌&&◌, List, [], ◌∷◌, length, arith, suc, ap}
 use Rattle.lint_core.specs.declared.database.Row.{Row}
 use Rattle.lint_core.specs.declared.schema.Table.{Table}
 use Rattle.lint_core.specs.DatabaseFits.{tables_fit, rows_fit}

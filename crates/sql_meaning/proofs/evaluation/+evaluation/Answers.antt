@@ -1,17 +1,14 @@
-use Rattle.std.proofs.Common.{◌≡◌, ◌∙◌, ◌∷◌, ◌++◌, [], ap, arith, refl, sym}
+use Rattle.std.proofs.Common.{◌≡◌, ◌∷◌, ◌++◌, [], ap, arith}
 use Rattle.std.proofs.lemmas.Grind.{common_steps}
 use Rattle.std.proofs.lemmas.Result.{err_from_is_err_and}
-use Rattle.std.specs.Prelude.{Ok}
 use Rattle.lint_core.proofs.Conditions.{truth_and, truth_or}
-use Rattle.lint_core.specs.Condition.{in_truth, items_at, truth}
-use Rattle.lint_core.specs.Evaluation.{map_ok}
+use Rattle.lint_core.specs.Condition.{in_truth, truth}
 use Rattle.lint_core.specs.Fits.{tables_of}
 use Rattle.sql_meaning.proofs.Gathered.{rows_end, rows_step, rows_stop, select_gives}
-use Rattle.sql_meaning.proofs.Steps.{chosen, exists_is, in_gives, in_stops, scalar_gives, scalar_stops, scalar_value_stops}
+use Rattle.sql_meaning.proofs.Steps.{exists_is, in_gives, in_stops, scalar_gives, scalar_stops, scalar_value_stops}
 use Rattle.sql_meaning.proofs.evaluation.+evaluation.Goals as goal
 use Rattle.sql_meaning.specs.Seen.{value_of, values_of}
 use Rattle.sql_meaning.specs.Standing.{binding_of_levels, tables_of_levels}
-use Rattle.sql_meaning.specs.Stops.{Gives}
 
 pub evaluate-returns-in-And : goal.evaluate-returns-in-And
 evaluate-returns-in-And t c =

@@ -2,7 +2,7 @@ use Rattle.std.proofs.Common.{◌≡◌, ◌+◌, ◌∷◌, ◌++◌, ℕ, List
 use Rattle.std.specs.List.{sum_by}
 use Rattle.std.specs.Prelude.{Ok}
 use Rattle.lint_core.specs.Condition.{truth}
-use Rattle.lint_core.specs.Database.{below, rows_of}
+use Rattle.lint_core.specs.Database.{below}
 use Rattle.lint_core.specs.Evaluation.{Evaluated, all_ok, map_ok}
 use Rattle.lint_core.specs.Fits.{tables_of}
 use Rattle.lint_core.specs.Truth.{and_of, greatest, least, or_of}

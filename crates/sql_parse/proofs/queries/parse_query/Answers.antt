@@ -13,6 +13,5 @@ returns-in-Ok-clause-query c = is_query c.args.tokens.now (c.in_default.ensures.
 
 pub returns-in-Err-Syntax-clause-refused : goal.returns-in-Err-Syntax-clause-refused
 returns-in-Err-Syntax-clause-refused c =
-    let at = c.syntax_at.ensures in
     let none = subst (λ e. GivesWhole (query_of c.args.tokens.now) (Err e)) c.in-Err-Syntax.field-0-is c.in-Err-Syntax.ensures in
-    no_query c.args.tokens.now (c.in_default.ensures.few refl) c.syntax_at.result (sym c.in_default-too_deep.ensures) none at.fault at.place at.count
+    no_query c.args.tokens.now (c.in_default.ensures.few refl) c.syntax_at.result c.in-Err-Syntax.left (sym c.in_default-too_deep.ensures) none c.syntax_at.ensures

@@ -14,6 +14,5 @@ returns-in-Ok-clause-tables c =
 
 pub returns-in-Err-Syntax-clause-refused : goal.returns-in-Err-Syntax-clause-refused
 returns-in-Err-Syntax-clause-refused c =
-    let at = c.syntax_at.ensures in
     let none = subst (λ e. GivesWhole (schema_of c.args.tokens.now) (Err e)) c.in-Err-Syntax.field-0-is c.in-Err-Syntax.ensures in
-    no_schema c.args.tokens.now c.syntax_at.result (sym c.too_deep.ensures ∙ c.in_default.is) none at.fault at.place at.count
+    no_schema c.args.tokens.now c.syntax_at.result c.in-Err-Syntax.left (sym c.too_deep.ensures ∙ c.in_default.is) none c.syntax_at.ensures

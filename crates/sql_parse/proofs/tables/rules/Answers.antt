@@ -28,7 +28,7 @@ loop-alloc-preserved c =
     let so_far = c.loop-alloc.rules in
     let rest = c.loop-alloc.rest.now in
     let begun : at_head begins_rule rest ≡ true = sym c.at_rule.ensures ∙ c.loop-alloc-test.true in
-    collected_step (at_head begins_rule) (read_named_rule c.args.depth c.args.column.now) (named_rule_below c.args.depth c.args.column.now) so_far c.add_optional.new.items (alone c.in_ok-rule.rule) rest c.in_ok-rule.after.now begun (c.in_ok-rule.ensures (length so_far)) c.in_ok-add_optional.ensures
+    collected_step (at_head begins_rule) (read_named_rule c.args.depth c.args.column.now) (named_rule_below c.args.depth c.args.column.now) so_far c.add_optional.new.items (alone c.in_ok-rule.rule) rest c.in_ok-rule.after.now begun (c.in_ok-rule.ensures (length so_far)) c.in_ok-add_optional.ensures.ok
     ∙ c.loop-alloc.invariant
 
 pub returns : goal.returns

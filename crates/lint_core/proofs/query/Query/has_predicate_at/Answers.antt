@@ -1,4 +1,4 @@
-use Rattle.std.proofs.Common.{◌≡◌, ◌∙◌, ap, sym, nat_lt}
+use Rattle.std.proofs.Common.{◌∙◌, ap, sym, nat_lt}
 use Rattle.lint_core.specs.Asked.{main_condition}
 use Rattle.lint_core.proofs.Counting.{predicates_counted}
 use Rattle.lint_core.proofs.query.Query.has_predicate_at.Goals as goal

@@ -1,4 +1,4 @@
-use Rattle.std.proofs.Common.{◌≡◌, ◌∙◌, ap, sym, nat_lt}
+use Rattle.std.proofs.Common.{◌∙◌, ap, sym, nat_lt}
 use Rattle.lint_core.specs.Asked.{main_condition}
 use Rattle.lint_core.specs.Fits.{main_tables}
 use Rattle.lint_core.proofs.Counting.{scalars_counted}

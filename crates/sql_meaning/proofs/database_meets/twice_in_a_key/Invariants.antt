@@ -1,0 +1,7 @@
+use Rattle.std.proofs.Common.{◌≡◌, drop}
+use Rattle.std.specs.Prelude.{slice_get}
+use Rattle.sql_meaning.specs.Violations.{numbered, twice}
+use Rattle.sql_meaning.proofs.database_meets.twice_in_a_key.Given as goal
+
+abbrev pub invariant-loop-number : goal.invariant-loop-number
+invariant-loop-number l = slice_get (numbered (twice l.database l.table) l.number (drop l.number l.keys)) 0 ≡ slice_get (numbered (twice l.database l.table) 0 l.keys) 0
