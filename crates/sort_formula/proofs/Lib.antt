@@ -6,3 +6,4 @@ mod Below
 mod Cells
 mod Complements
 mod Renaming
+mod Translated

@@ -16,9 +16,11 @@ mod placing;
 mod sentence;
 #[cfg(test)]
 mod tests;
+mod worked;
 
 pub use formula::{Atom, Formula, Side};
 pub use laws::{negation_complements, placing_renames};
 pub use negation::negate;
 pub use placing::place;
 pub use sentence::Sentence;
+pub use worked::worked_formulas;
