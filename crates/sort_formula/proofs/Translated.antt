@@ -8,7 +8,7 @@ use Rattle.lint_core.specs.declared.condition.Cond.TheVariants as c
 use Rattle.lint_core.specs.declared.condition.Cond.TheOpen.{Cond-F}
 use Rattle.lint_core.specs.declared.condition.Block.{Block, fold-Block}
 use Rattle.lint_core.specs.declared.schema.Table.{Table}
-use Rattle.sort_formula.specs.Sides.{Scope, compare_formula, compare_false_formula}
+use Rattle.sort_formula.specs.Sides.{Scope, everything, nothing, compare_formula, compare_false_formula}
 use Rattle.sort_formula.specs.Translation.{Both, Meaning, BlockMeaning, translation, translation_step, block_step}
 
 module _ (schema : List Table) where
@@ -25,3 +25,6 @@ module _ (schema : List Table) where
       translation schema (c.Compare op left right span) scope ≡ record { true = compare_formula schema scope op left right; false = compare_false_formula schema scope op left right }
   translation_compare op left right span scope =
       ap (λ m. m scope) (translation_out (c.Compare op left right span) ∙ ap layer_translation (c.outs-Compare op left right span))
+
+  pub translation_true : (scope : Scope) → translation schema c.True scope ≡ record { true = everything; false = nothing }
+  translation_true scope = ap (λ m. m scope) (translation_out c.True ∙ ap layer_translation c.outs-True)
