@@ -3,7 +3,7 @@ use Rattle.std.proofs.Common.{◌≡◌, ◌∙◌, refl, sym, ap, ap₂, subst,
 use Rattle.std.proofs.lemmas.Bool.Decides.{nat_tests}
 use Rattle.std.proofs.lemmas.List.Folds.{list_all-map}
 use Rattle.std.proofs.lemmas.List.Sums.{sum_by-cons}
-use Rattle.std.specs.List.{list_all, sum_by}
+use Rattle.std.specs.List.{list_all}
 use Rattle.std.specs.Prelude.{nat_lt, sum}
 use Rattle.sort_formula.specs.declared.formula.Side.{Side}
 use Rattle.sort_formula.specs.declared.formula.Side.TheVariants as side
@@ -98,3 +98,9 @@ below_and m parts =
 pub below_or : (m : ℕ) (parts : List Formula) → is_below m (f.Or parts) ≡ list_all (is_below m) parts
 below_or m parts =
     ap (is_below m) (sym (f.rolls-Or parts)) ∙ (fold-roll-Formula Bool (below_step m) (Formula-F.Or parts) ∙ list_all-map (λ part. part) (is_below m) parts)
+
+pub placed_from_atom : (n : ℕ) (a : Atom) → is_placed_from n (f.Atom a) ≡ atom_is_below n a
+placed_from_atom n a = ap (is_placed_from n) (sym (f.rolls-Atom a)) ∙ ap (λ (meaning : Meaning). meaning n) (fold-roll-Formula Meaning placed_from_step (Formula-F.Atom a))
+
+pub quantifiers_atom : (a : Atom) → quantifiers (f.Atom a) ≡ 0
+quantifiers_atom a = ap quantifiers (sym (f.rolls-Atom a)) ∙ fold-roll-Formula ℕ quantifiers_step (Formula-F.Atom a)

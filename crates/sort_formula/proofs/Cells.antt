@@ -2,7 +2,7 @@
 use Rattle.std.proofs.Common.{◌≡◌, refl, subst, ℕ, zero, suc, Bool, true, false, List, [], ◌∷◌}
 use Rattle.std.proofs.lemmas.Option.{same_Some}
 use Rattle.std.specs.Option.{option_and_then, option_map_or}
-use Rattle.std.specs.Prelude.{◌&&◌, Option, Some, None, slice_get, unwrap_or}
+use Rattle.std.specs.Prelude.{Option, Some, None, slice_get, unwrap_or}
 use Rattle.lint_core.specs.declared.database.Database.{Database}
 use Rattle.lint_core.specs.declared.database.Row.{Row}
 use Rattle.lint_core.specs.declared.database.Value.{Value}
@@ -13,7 +13,6 @@ use Rattle.lint_core.specs.declared.schema.Domain.TheVariants as domain
 use Rattle.lint_core.specs.declared.schema.Kind.{Kind}
 use Rattle.lint_core.specs.declared.schema.Kind.TheVariants as kind
 use Rattle.lint_core.specs.declared.schema.Table.{Table}
-use Rattle.lint_core.specs.declared.schema.Unit.{Unit as NumberUnit}
 use Rattle.lint_core.specs.Database.{Place}
 use Rattle.lint_core.specs.Domain.{is_in_domain}
 use Rattle.lint_core.specs.Kind.{column_kind, kind_of, is_text}

@@ -1,4 +1,8 @@
 //! Small formulas: their negation, another place, and which are sentences.
+ghost use Rattle.std.specs.Prelude.{◌≡◌};
+ghost use Rattle.sort_formula.specs.declared.formula.Atom.TheVariants as atom;
+ghost use Rattle.sort_formula.specs.declared.formula.Formula.TheVariants as f;
+
 use crate::formula::{Atom, Formula, Side};
 use crate::laws::{negation_complements, placing_renames};
 use crate::negation::negate;
@@ -24,7 +28,9 @@ fn at_most(cell: Side, most: i128) -> Formula {
     })
 }
 
-fn same(row: u32, other: u32) -> Formula {
+fn same(row: u32, other: u32) -> Formula
+    ensures { result ≡ f.Atom (atom.Same row other) }
+{
     Formula::Atom(Atom::Same { row, other })
 }
 

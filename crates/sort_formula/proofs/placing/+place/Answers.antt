@@ -1,4 +1,4 @@
-use Rattle.std.proofs.Common.{rules, ◌≡◌, ◌+◌, ◌-◌, ◌^◌, length}
+use Rattle.std.proofs.Common.{rules, ◌+◌, ◌-◌, ◌^◌, length}
 use Rattle.sort_formula.specs.declared.formula.Formula.TheViews.{sized-And, sized-Or}
 use Rattle.sort_formula.proofs.Below.{below_and, below_or}
 use Rattle.sort_formula.proofs.placing.+place.Goals as goal
