@@ -1,0 +1,9 @@
+mod Lists
+pub mod Holding
+mod Standing
+mod Fitting
+mod Below
+mod Cells
+mod Complements
+mod Renaming
+mod Translated

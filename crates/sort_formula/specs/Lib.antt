@@ -1,0 +1,12 @@
+pub mod Holds
+pub mod Negated
+pub mod Variables
+pub mod Placed
+pub mod Sentences
+pub mod Standing
+pub mod Nodes
+pub mod Sides
+pub mod Translation
+pub mod Axioms
+pub mod Counters
+pub mod Rows

@@ -1,0 +1,27 @@
+//! Formulas: sentences with two truth values about the rows of a database.
+//!
+//! The layer above may use the types, `negate`, `place`, `Sentence` and its calls, and the copies. Of `specs/`
+//! a reader must believe `Holds` (when a formula holds), `Negated` and `Placed` (what `negate` and `place`
+//! make), `Variables` (`is_placed_from`: which formulas `place` takes), `Sentences` (what a sentence is), `Nodes`,
+//! and `Rows`, which the laws speak of. The laws `negation_complements` and `placing_renames` say what `negate` and
+//! `place` are for.
+#![tactic(auto)]
+
+mod copies;
+mod fits;
+mod formula;
+mod laws;
+mod negation;
+mod outside;
+mod placing;
+mod sentence;
+#[cfg(test)]
+mod tests;
+mod worked;
+
+pub use formula::{Atom, Formula, Side};
+pub use laws::{negation_complements, placing_renames};
+pub use negation::negate;
+pub use placing::place;
+pub use sentence::Sentence;
+pub use worked::worked_formulas;

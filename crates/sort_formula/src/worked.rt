@@ -1,0 +1,32 @@
+//! The translations by small examples. The function does nothing: its contract is facts about the definitions in
+//! `specs/`.
+ghost use Rattle.std.specs.Prelude.{◌≡◌, pos, neg_ℤ, List, [], ◌∷◌, Some, None};
+ghost use Rattle.lint_tables.specs.declared.op.Op.TheVariants.{Ne};
+ghost use Rattle.lint_core.specs.declared.condition.Cond.TheVariants.{Compare};
+ghost use Rattle.lint_core.specs.Examples.{nowhere, number, the_column, plain, unique, select_distinct};
+ghost use Rattle.lint_core.specs.declared.database.Value.TheVariants.{Null};
+ghost use Rattle.lint_core.specs.declared.query.Question.TheVariants.{NeedlessDistinct};
+ghost use Rattle.sort_formula.specs.declared.formula.Formula.TheVariants.{Atom as Fact, And, Or, Exists, Forall};
+ghost use Rattle.sort_formula.specs.declared.formula.Atom.TheVariants.{Le, IsNull, Same, Other};
+ghost use Rattle.sort_formula.specs.declared.formula.Side.TheVariants.{Cell, Zero};
+ghost use Rattle.sort_formula.specs.Axioms.{axioms};
+ghost use Rattle.sort_formula.specs.Counters.{counter_sentence};
+ghost use Rattle.sort_formula.specs.Sides.{Scope};
+ghost use Rattle.sort_formula.specs.Translation.{is_true_formula};
+
+/// That a column differs from 5 says that it is at most 4 or at least 6; a key says of any two rows that they are
+/// one, or one has a NULL, or the columns differ. DISTINCT is needed where two rows are not distinct: both NULL, or equal.
+pub fn worked_formulas()
+    ensures differs { let scope : Scope = record { variables = (0 ∷ []) ∷ []; tables = (0 ∷ []) ∷ []; depth = 1 } in
+        is_true_formula plain (Compare Ne the_column (number 5) nowhere) scope
+        ≡ Or (Fact (Le (Cell 0 0) Zero (pos 4)) ∷ Fact (Le Zero (Cell 0 0) (neg_ℤ (pos 6))) ∷ []) }
+    ensures key { axioms unique ≡ record {
+        sentence = Forall 0 (Forall 0 (Or (Fact (Same 0 1) ∷ Fact (IsNull 0 0) ∷ Fact (IsNull 1 0)
+            ∷ Fact (Le (Cell 0 0) (Cell 1 0) (neg_ℤ (pos 1))) ∷ Fact (Le (Cell 1 0) (Cell 0 0) (neg_ℤ (pos 1))) ∷ [])));
+        key = None } ∷ [] }
+    ensures no_constraint { axioms plain ≡ [] }
+    ensures needless_distinct { counter_sentence plain select_distinct NeedlessDistinct Null
+        ≡ Exists 0 (Exists 0 (And (And [] ∷ And [] ∷ Or (Fact (Other 0 1) ∷ [])
+            ∷ Or (And (Fact (IsNull 0 0) ∷ Fact (IsNull 1 0) ∷ [])
+                ∷ And (Fact (Le (Cell 0 0) (Cell 1 0) (pos 0)) ∷ Fact (Le (Cell 1 0) (Cell 0 0) (pos 0)) ∷ []) ∷ []) ∷ []))) }
+{}
