@@ -80,8 +80,8 @@ module _ (schema : List Table) (number : ℕ) (table : Table) where
   abbrev pub foreign_sentence : ForeignKey → Formula
   foreign_sentence key =
       f.Forall number (f.Or (
-        map (λ column. f.Atom (atom.IsNull 0 column)) key.columns
-        ++ f.Exists key.target (f.And (flat_map pair_equal (zip key.columns key.target_columns))) ∷ []
+      map (λ column. f.Atom (atom.IsNull 0 column)) key.columns
+      ++ f.Exists key.target (f.And (flat_map pair_equal (zip key.columns key.target_columns))) ∷ []
       ))
 
   -- those of the foreign keys, the first of which has this number

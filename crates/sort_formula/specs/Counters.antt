@@ -59,8 +59,8 @@ module _ (schema : List Table) where
   abbrev pub not_distinct : Scope → Term → Scope → Term → Formula
   not_distinct scope a other b =
       f.Or (
-        f.And (is_null_formula schema scope a ∷ is_null_formula schema other b ∷ [])
-        ∷ equal_cells (is_text_term schema scope a) (side_of schema scope a) (side_of schema other b)
+      f.And (is_null_formula schema scope a ∷ is_null_formula schema other b ∷ [])
+      ∷ equal_cells (is_text_term schema scope a) (side_of schema scope a) (side_of schema other b)
       )
 
   -- ---- E9: two rows of the subquery, in the same rows outside
@@ -88,9 +88,9 @@ module _ (schema : List Table) where
     two_rows =
         exist_rows (all_of sub.tables ++ last_level sub.tables)
         (f.And (
-          is_true_formula schema sub.cond (deeper first_scope)
-          ∷ is_true_formula schema sub.cond second_scope
-          ∷ some_other (last_level first_scope.variables) (last_level second_scope.variables) ∷ []
+        is_true_formula schema sub.cond (deeper first_scope)
+        ∷ is_true_formula schema sub.cond second_scope
+        ∷ some_other (last_level first_scope.variables) (last_level second_scope.variables) ∷ []
         ))
 
     -- E10: the subquery selects NULL
@@ -137,10 +137,10 @@ module _ (schema : List Table) where
     distinct_counter =
         exist_rows (own ++ own)
         (f.And (
-          is_true_formula schema (main_condition query) one_scope
-          ∷ is_true_formula schema (main_condition query) two_scope
-          ∷ some_other (from_number 0 count) (from_number count count)
-          ∷ items_alike
+        is_true_formula schema (main_condition query) one_scope
+        ∷ is_true_formula schema (main_condition query) two_scope
+        ∷ some_other (from_number 0 count) (from_number count count)
+        ∷ items_alike
         ))
 
     -- ---- E3: the column has another value
@@ -174,9 +174,9 @@ module _ (schema : List Table) where
       abbrev pub none_or_two : Formula
       none_or_two =
           f.Or (
-            f.Forall table_of_entry (negated (fits_at (count - 1) count))
-            ∷ f.Exists table_of_entry (f.Exists table_of_entry (f.And (fits_at (count - 1) (count + 1) ∷ fits_at count (count + 1) ∷ f.Atom (atom.Other (count - 1) count) ∷ [])))
-            ∷ []
+          f.Forall table_of_entry (negated (fits_at (count - 1) count))
+          ∷ f.Exists table_of_entry (f.Exists table_of_entry (f.And (fits_at (count - 1) (count + 1) ∷ fits_at count (count + 1) ∷ f.Atom (atom.Other (count - 1) count) ∷ [])))
+          ∷ []
           )
 
       -- (the conjuncts without the entry have no variable of it: 0 stands in)

@@ -21,12 +21,13 @@ pub fn worked_formulas()
         is_true_formula plain (Compare Ne the_column (number 5) nowhere) scope
         ≡ Or (Fact (Le (Cell 0 0) Zero (pos 4)) ∷ Fact (Le Zero (Cell 0 0) (neg_ℤ (pos 6))) ∷ []) }
     ensures key { axioms unique ≡ record {
-        sentence = Forall 0 (Forall 0 (Or (Fact (Same 0 1) ∷ Fact (IsNull 0 0) ∷ Fact (IsNull 1 0)
-            ∷ Fact (Le (Cell 0 0) (Cell 1 0) (neg_ℤ (pos 1))) ∷ Fact (Le (Cell 1 0) (Cell 0 0) (neg_ℤ (pos 1))) ∷ [])));
-        key = None } ∷ [] }
+      sentence = Forall 0 (Forall 0 (Or (Fact (Same 0 1) ∷ Fact (IsNull 0 0) ∷ Fact (IsNull 1 0)
+          ∷ Fact (Le (Cell 0 0) (Cell 1 0) (neg_ℤ (pos 1))) ∷ Fact (Le (Cell 1 0) (Cell 0 0) (neg_ℤ (pos 1))) ∷ [])));
+      key = None;
+    } ∷ [] }
     ensures no_constraint { axioms plain ≡ [] }
     ensures needless_distinct { counter_sentence plain select_distinct NeedlessDistinct Null
         ≡ Exists 0 (Exists 0 (And (And [] ∷ And [] ∷ Or (Fact (Other 0 1) ∷ [])
-            ∷ Or (And (Fact (IsNull 0 0) ∷ Fact (IsNull 1 0) ∷ [])
-                ∷ And (Fact (Le (Cell 0 0) (Cell 1 0) (pos 0)) ∷ Fact (Le (Cell 1 0) (Cell 0 0) (pos 0)) ∷ []) ∷ []) ∷ []))) }
+        ∷ Or (And (Fact (IsNull 0 0) ∷ Fact (IsNull 1 0) ∷ [])
+        ∷ And (Fact (Le (Cell 0 0) (Cell 1 0) (pos 0)) ∷ Fact (Le (Cell 1 0) (Cell 0 0) (pos 0)) ∷ []) ∷ []) ∷ []))) }
 {}
