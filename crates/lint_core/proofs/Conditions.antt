@@ -11,13 +11,24 @@ use Rattle.lint_core.specs.declared.condition.Cond.TheVariants as c
 use Rattle.lint_core.specs.declared.condition.Cond.TheOpen.{Cond-F}
 use Rattle.lint_core.specs.declared.condition.Block.{Block, fold-Block, fold_out-Block}
 use Rattle.lint_core.specs.declared.database.Truth.{Truth}
-use Rattle.lint_core.specs.declared.database.Truth.TheVariants.{False, True}
+use Rattle.lint_core.specs.declared.database.Truth.TheVariants.{False, Unknown, True}
 use Rattle.lint_core.specs.declared.database.Database.{Database}
 use Rattle.lint_core.specs.Condition.{truth, has_truth, Meaning, BlockMeaning, cond_step, block_step, inner_bindings, term_value, selected, exists_truth, in_truth, items_at, scalar_value}
-use Rattle.lint_core.specs.Truth.{is_true, truth_of, not_of, negated_if, and_of, or_of}
+use Rattle.lint_core.specs.Truth.{is_true, truth_of, not_of, negated_if, least, and_of, or_of}
 use Rattle.lint_core.specs.Comparison.{compare, is_null}
 use Rattle.lint_core.specs.Evaluation.{Evaluated, and_then, map_ok, all_ok, all_hold}
 use Rattle.lint_core.specs.Question.{is_known_true}
+
+pub true_of_test : (b : Bool) → is_true (truth_of b) ≡ b
+true_of_test true = refl
+true_of_test false = refl
+
+pub least_true : (a b : Truth) → is_true (least a b) ≡ (is_true a && is_true b)
+least_true False b = refl
+least_true Unknown False = refl
+least_true Unknown Unknown = refl
+least_true Unknown True = refl
+least_true True b = refl
 
 module _ (db : Database) where
   -- the meaning of a block

@@ -18,7 +18,7 @@ use Rattle.lint_core.specs.declared.query.Query.{Query}
 use Rattle.lint_core.specs.Comparison.{are_not_distinct}
 use Rattle.lint_core.specs.Evaluation.{map_ok}
 use Rattle.lint_core.specs.QueryAnswer.{is_same_row, one_of_each, all_rows, answer}
-use Rattle.lint_core.proofs.Comparisons.{true_of_test}
+use Rattle.lint_core.proofs.Conditions.{true_of_test}
 
 -- ---- values and rows that are not distinct
 

@@ -23,10 +23,6 @@ pub mod Question
 pub mod QueryAnswer
 pub mod PlainWord
 pub mod FirstForm
-pub mod Formula
-pub mod Translation
-pub mod Certificate
-pub mod Answer
 pub mod Connectives
 pub mod SubqueryValues
 pub mod SameRows

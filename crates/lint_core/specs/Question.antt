@@ -42,6 +42,10 @@ all_true truths = all_hold (map (map_ok is_true) truths)
 abbrev pub one_is_true : Evaluated Truth → Evaluated Truth → Evaluated Bool
 one_is_true a b = and_then (λ t. map_ok (λ u. (is_true t && not (is_true u)) || (is_true u && not (is_true t))) b) a
 
+-- what stands for the truth of a condition at a binding, by the tables and the rows of the entries of each level
+abbrev pub Reading : Type 0
+Reading = Cond → List (List ℕ) → List (List ℕ) → Evaluated Truth
+
 -- it is known, and so
 abbrev pub is_known_true : Evaluated Bool → Bool
 is_known_true (Ok fact) = fact
@@ -80,9 +84,6 @@ module _ (db : Database) (query : Query) where
 
   -- ---- the clauses
 
-  abbrev pub where_truth : Binding → Evaluated Truth
-  where_truth binding = truth db (main_condition query) (main_tables query) binding.levels
-
   -- the value of an item
   abbrev pub item_value : Binding → Item → Value
   item_value binding item = term_value db (main_tables query) binding.levels item.term
@@ -94,60 +95,88 @@ module _ (db : Database) (query : Query) where
   abbrev pub are_same_items : Binding → Binding → Bool
   are_same_items one two = list_all (λ (item : Item). are_not_distinct (item_value one item) (item_value two item)) query.items
 
-  -- the conditions at the binding of all entries in which this entry has this row
-  abbrev pub are_true_with : ℕ → Binding → ℕ → List Cond → Evaluated Bool
-  are_true_with entry others row conds = all_true (map (λ c. truth db c (main_tables query) (with_row entry row others.levels)) conds)
-
   -- the table of a main entry
   abbrev pub table_of : ℕ → ℕ
   table_of entry = option_map_or (λ (e : Entry). e.table) (slice_get (main_entries query) entry) 0
 
-  -- at no row of the entry are all conjuncts true that name it
-  abbrev pub no_row_fits : ℕ → Binding → Evaluated Bool
-  no_row_fits entry others =
-      map_ok (λ fit. not (list_any (λ fits. fits) fit))
-      (all_ok (map (λ row. are_true_with entry others row (conjuncts_with entry query)) (below (length (rows_of db (table_of entry))))))
-
-  -- the condition of WHERE with a predicate replaced
-  abbrev pub where_replaced : Cond → ℕ → Binding → Evaluated Truth
-  where_replaced by predicate binding = truth db (with_replaced by predicate (main_condition query)) (main_tables query) binding.levels
-
-  -- of a subquery, at a binding of its levels
-  abbrev pub inner_truth : List Subquery → ℕ → Binding → Evaluated Truth
-  inner_truth subs sub binding = option_map_or (λ (s : Subquery). truth db s.cond s.tables binding.levels) (slice_get subs sub) (Ok Truth.False)
-
   abbrev pub inner_value : List Subquery → ℕ → Binding → Value
   inner_value subs sub binding = option_map_or (λ (s : Subquery). term_value db s.tables binding.levels s.item) (slice_get subs sub) Null
 
-  -- what refutes the question, at points of its form. The value is that of the constant column
-  abbrev pub clause : Question → Value → Points → Evaluated Bool
-  -- the subquery gives two rows
-  clause (OneRow sub) given (Two one two) = all_true (inner_truth (scalars_of query) sub one ∷ inner_truth (scalars_of query) sub two ∷ [])
-  -- the answer has a row
-  clause Empty given (One one) = all_true (where_truth one ∷ [])
-  -- the answer without DISTINCT has two rows that are not distinct
-  clause NeedlessDistinct given (Two one two) = map_ok (λ both. both && are_same_items one two) (all_true (where_truth one ∷ where_truth two ∷ []))
-  -- the item has a distinct value
-  clause (Constant item) given (One one) = map_ok (λ here. here && not (are_not_distinct (value_of_item one item) given)) (all_true (where_truth one ∷ []))
-  -- the two items have distinct values
-  clause (Duplicate item other) given (One one) =
-      map_ok (λ here. here && not (are_not_distinct (value_of_item one item) (value_of_item one other))) (all_true (where_truth one ∷ []))
-  -- no row of the entry fits; or two do. (0 stands in for a row of the entry, which these conjuncts do not name)
-  clause (NeedlessJoin entry) given (Without one) = all_hold (are_true_with entry one 0 (conjuncts_without entry query) ∷ no_row_fits entry one ∷ [])
-  clause (NeedlessJoin entry) given (Two one two) = all_true (where_truth one ∷ where_truth two ∷ [])
-  -- exactly one of the two is true: WHERE, and WHERE with TRUE, or with FALSE, in place of the predicate
-  clause (Implied predicate) given (One one) = one_is_true (where_truth one) (where_replaced cond.True predicate one)
-  clause (Impossible predicate) given (One one) = one_is_true (where_truth one) (where_replaced cond.False predicate one)
-  -- the two entries have different rows
-  clause (SameRow entry other) given (One one) = map_ok (λ here. here && not (is_same_row one.levels entry other)) (all_true (where_truth one ∷ []))
-  -- the subquery selects NULL
-  clause (NullInNotIn sub) given (One one) = map_ok (λ here. here && is_null (inner_value (not_ins_of query) sub one)) (all_true (inner_truth (not_ins_of query) sub one ∷ []))
-  -- points of another form: not reached from `outcome`
-  clause question given points = Ok false
+  -- by the truth of a condition, or by another reading of it
+  module _ (reading : Reading) where
+    abbrev pub where_read : Binding → Evaluated Truth
+    where_read binding = reading (main_condition query) (main_tables query) binding.levels
 
-  -- whether the points refute the question, where that can be decided
+    -- the conditions at the binding of all entries in which this entry has this row
+    abbrev pub are_read_true_with : ℕ → Binding → ℕ → List Cond → Evaluated Bool
+    are_read_true_with entry others row conds = all_true (map (λ c. reading c (main_tables query) (with_row entry row others.levels)) conds)
+
+    -- at no row of the entry are all conjuncts true that name it
+    abbrev pub no_row_read : ℕ → Binding → Evaluated Bool
+    no_row_read entry others =
+        map_ok (λ fit. not (list_any (λ fits. fits) fit))
+        (all_ok (map (λ row. are_read_true_with entry others row (conjuncts_with entry query)) (below (length (rows_of db (table_of entry))))))
+
+    -- the condition of WHERE with a predicate replaced
+    abbrev pub replaced_read : Cond → ℕ → Binding → Evaluated Truth
+    replaced_read by predicate binding = reading (with_replaced by predicate (main_condition query)) (main_tables query) binding.levels
+
+    -- of a subquery, at a binding of its levels
+    abbrev pub inner_read : List Subquery → ℕ → Binding → Evaluated Truth
+    inner_read subs sub binding = option_map_or (λ (s : Subquery). reading s.cond s.tables binding.levels) (slice_get subs sub) (Ok Truth.False)
+
+    -- what refutes the question, at points of its form. The value is that of the constant column
+    abbrev pub clause_read : Question → Value → Points → Evaluated Bool
+    -- the subquery gives two rows
+    clause_read (OneRow sub) given (Two one two) = all_true (inner_read (scalars_of query) sub one ∷ inner_read (scalars_of query) sub two ∷ [])
+    -- the answer has a row
+    clause_read Empty given (One one) = all_true (where_read one ∷ [])
+    -- the answer without DISTINCT has two rows that are not distinct
+    clause_read NeedlessDistinct given (Two one two) = map_ok (λ both. both && are_same_items one two) (all_true (where_read one ∷ where_read two ∷ []))
+    -- the item has a distinct value
+    clause_read (Constant item) given (One one) = map_ok (λ here. here && not (are_not_distinct (value_of_item one item) given)) (all_true (where_read one ∷ []))
+    -- the two items have distinct values
+    clause_read (Duplicate item other) given (One one) =
+        map_ok (λ here. here && not (are_not_distinct (value_of_item one item) (value_of_item one other))) (all_true (where_read one ∷ []))
+    -- no row of the entry fits; or two do. (0 stands in for a row of the entry, which these conjuncts do not name)
+    clause_read (NeedlessJoin entry) given (Without one) = all_hold (are_read_true_with entry one 0 (conjuncts_without entry query) ∷ no_row_read entry one ∷ [])
+    clause_read (NeedlessJoin entry) given (Two one two) = all_true (where_read one ∷ where_read two ∷ [])
+    -- exactly one of the two is true: WHERE, and WHERE with TRUE, or with FALSE, in place of the predicate
+    clause_read (Implied predicate) given (One one) = one_is_true (where_read one) (replaced_read cond.True predicate one)
+    clause_read (Impossible predicate) given (One one) = one_is_true (where_read one) (replaced_read cond.False predicate one)
+    -- the two entries have different rows
+    clause_read (SameRow entry other) given (One one) = map_ok (λ here. here && not (is_same_row one.levels entry other)) (all_true (where_read one ∷ []))
+    -- the subquery selects NULL
+    clause_read (NullInNotIn sub) given (One one) = map_ok (λ here. here && is_null (inner_value (not_ins_of query) sub one)) (all_true (inner_read (not_ins_of query) sub one ∷ []))
+    -- points of another form: not reached from `outcome`
+    clause_read question given points = Ok false
+
+    -- whether the points refute the question, where that can be decided
+    abbrev pub outcome_read : Question → Value → Points → Evaluated Bool
+    outcome_read question given points = if have_form question points then clause_read question given points else Ok false
+
+  -- by the truths themselves
+
+  abbrev pub where_truth : Binding → Evaluated Truth
+  where_truth = where_read (truth db)
+
+  abbrev pub are_true_with : ℕ → Binding → ℕ → List Cond → Evaluated Bool
+  are_true_with = are_read_true_with (truth db)
+
+  abbrev pub no_row_fits : ℕ → Binding → Evaluated Bool
+  no_row_fits = no_row_read (truth db)
+
+  abbrev pub where_replaced : Cond → ℕ → Binding → Evaluated Truth
+  where_replaced = replaced_read (truth db)
+
+  abbrev pub inner_truth : List Subquery → ℕ → Binding → Evaluated Truth
+  inner_truth = inner_read (truth db)
+
+  abbrev pub clause : Question → Value → Points → Evaluated Bool
+  clause = clause_read (truth db)
+
   abbrev pub outcome : Question → Value → Points → Evaluated Bool
-  outcome question given points = if have_form question points then clause question given points else Ok false
+  outcome = outcome_read (truth db)
 
   abbrev pub refutes : Question → Value → Points → Bool
   refutes question given points = is_known_true (outcome question given points)

@@ -81,6 +81,13 @@ pub enum Violation {
     },
 }
 
+/// A foreign key, by the number of its table and by its number there, each from 0.
+#[derive(Clone, Copy, Debug, PartialEq, Eq)]
+pub struct KeyName {
+    pub table: u32,
+    pub index: u32,
+}
+
 /// A database in which a question fails at these points.
 #[derive(Drop)]
 pub struct Counter {

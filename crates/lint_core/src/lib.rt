@@ -7,16 +7,11 @@
 //! `Condition` and `QueryAnswer` (what SQL means), `Asked` with `Parts`, `Conjuncts`, `Predicates`,
 //! `Subqueries` and `Naming` (which questions are asked), `Points` and `Question` (when they fail),
 //! `DatabaseFits` (which databases a call takes), `FirstForm` and `PlainWord` (which queries are judged so
-//! far), `Formula`, `Translation` and `Certificate` (what a certificate is), and `Answer` (when an answer is
-//! right).
+//! far).
 //!
 //! The laws that join them are contracts of functions that do nothing: `first_form_is_tested` (the test of
-//! the first form says yes exactly of these queries), `asked_questions_are_listed` (the list of questions has
-//! exactly those that are asked), `formula_says_truth` (the formula of a WHERE holds exactly where it is
-//! true), `sentence_says_failure` (the counter sentence of E1 holds exactly where some points refute it),
-//! `accepted_steps_refute` (a sentence that accepted steps refute holds in no database of the schema), and
-//! `certified_question_holds`, which follows from these. `accepted_steps_refute` is about every schema and
-//! sentence; the laws about sentences of queries are about those of the first form. `worked_truths` and
+//! the first form says yes exactly of these queries) and `asked_questions_are_listed` (the list of questions
+//! has exactly those that are asked). `worked_truths` and
 //! `worked_constraints` show the meaning by small examples (`Examples`), and `worked_asking` and
 //! `worked_refuting` the questions. What the definitions say in the subject's own words are the laws
 //! `connectives_are_least_and_greatest`, `in_is_a_disjunction`, `not_in_with_null_is_never_true`,
@@ -35,7 +30,6 @@ mod database;
 mod database_fits;
 mod first_form;
 mod fits;
-mod formula;
 mod laws;
 mod meaning_laws;
 mod naming;
@@ -45,14 +39,10 @@ mod schema;
 mod worked;
 mod worked_questions;
 
-pub use certificate::{Cert, Step, SumEdge};
+pub use certificate::{Cert, SameEdge, Step, SumEdge, TextEdge};
 pub use condition::{Block, Cond, Entry, Term};
-pub use database::{Binding, Counter, Database, Points, Row, Truth, Value, Violation};
-pub use formula::{Atom, Formula, Side};
-pub use laws::{
-    accepted_steps_refute, asked_questions_are_listed, certified_question_holds,
-    first_form_is_tested, formula_says_truth, sentence_says_failure,
-};
+pub use database::{Binding, Counter, Database, KeyName, Points, Row, Truth, Value, Violation};
+pub use laws::{asked_questions_are_listed, first_form_is_tested};
 pub use meaning_laws::{
     connectives_are_least_and_greatest, distinct_keeps_one_of_each, exists_is_never_unknown,
     in_is_a_disjunction, not_in_with_null_is_never_true, truth_depends_on_rows_alone,
