@@ -13,7 +13,7 @@ use Rattle.sort_formula.specs.declared.formula.Formula.{Formula, ind-Formula, ro
 use Rattle.sort_formula.specs.declared.formula.Formula.TheVariants as f
 use Rattle.sort_formula.specs.declared.formula.Formula.TheOpen.{Formula-F}
 use Rattle.sort_formula.specs.Nodes.{quantifiers, quantifiers_step}
-use Rattle.sort_formula.specs.Variables.{side_is_below, atom_is_below, Meaning, placed_from_step, is_placed_from, below_step, is_below}
+use Rattle.sort_formula.specs.Variables.{side_is_below, atom_is_below, Meaning, numbered_from_step, is_numbered_from, below_step, is_below}
 use Rattle.sort_formula.proofs.Lists.{both_left, both_right}
 
 row_below : (n m row : ℕ) → n ≤ m → nat_lt row n ≡ true → nat_lt row m ≡ true
@@ -42,7 +42,7 @@ atom_below n m (atom.Other row other) low below =
     both (nat_lt row n) (nat_lt other n) (nat_lt row m) (nat_lt other m) (row_below n m row low) (row_below n m other low) below
 
 abbrev pub Below : Formula → Type 0
-Below g = (n m : ℕ) → is_placed_from n g ≡ true → n + quantifiers g ≤ m → is_below m g ≡ true
+Below g = (n m : ℕ) → is_numbered_from n g ≡ true → n + quantifiers g ≤ m → is_below m g ≡ true
 
 abbrev Part : Type 0
 Part = (g : Formula) × Below g
@@ -51,14 +51,14 @@ abbrev formulas : List Part → List Formula
 formulas parts = map (λ (part : Part). part.0) parts
 
 abbrev from : Formula → Meaning
-from g n = is_placed_from n g
+from g n = is_numbered_from n g
 
 each_below : (parts : List Part) (n m : ℕ) → list_all (λ (part : Meaning). part n) (map from (formulas parts)) ≡ true → n + sum (map quantifiers (formulas parts)) ≤ m →
     list_all (λ part. part) (map (is_below m) (formulas parts)) ≡ true
 each_below [] n m placed low = refl
 each_below (part ∷ parts) n m placed low =
     let count = sum_by-cons (λ k. k) (quantifiers part.0) (map quantifiers (formulas parts)) in
-    let here = is_placed_from n part.0 in
+    let here = is_numbered_from n part.0 in
     let rest = list_all (λ (part : Meaning). part n) (map from (formulas parts)) in
     ap₂ (λ x y. x && y)
     (part.1 n m (both_left here rest placed) (omega arith))
@@ -70,7 +70,7 @@ layer_of y = map-Formula Part Formula (λ e. e.0) y
 -- what the fact says of a layer
 abbrev BelowLayer : Formula-F Formula → Type 0
 BelowLayer x =
-    (n m : ℕ) → placed_from_step (map-Formula Formula Meaning from x) n ≡ true → n + quantifiers_step (map-Formula Formula ℕ quantifiers x) ≤ m →
+    (n m : ℕ) → numbered_from_step (map-Formula Formula Meaning from x) n ≡ true → n + quantifiers_step (map-Formula Formula ℕ quantifiers x) ≤ m →
     below_step m (map-Formula Formula Bool (is_below m) x) ≡ true
 
 at_layer : (y : Formula-F Part) → BelowLayer (layer_of y)
@@ -84,7 +84,7 @@ rolled : (x : Formula-F Formula) → BelowLayer x → Below (roll-Formula x)
 rolled x layer n m placed low =
     fold-roll-Formula Bool (below_step m) x
     ∙ layer n m
-    (sym (ap (λ (meaning : Meaning). meaning n) (fold-roll-Formula Meaning placed_from_step x)) ∙ placed)
+    (sym (ap (λ (meaning : Meaning). meaning n) (fold-roll-Formula Meaning numbered_from_step x)) ∙ placed)
     (subst (λ (k : ℕ). n + k ≤ m) (fold-roll-Formula ℕ quantifiers_step x) low)
 
 pub variables_below : (g : Formula) → Below g
@@ -99,8 +99,8 @@ pub below_or : (m : ℕ) (parts : List Formula) → is_below m (f.Or parts) ≡ 
 below_or m parts =
     ap (is_below m) (sym (f.rolls-Or parts)) ∙ (fold-roll-Formula Bool (below_step m) (Formula-F.Or parts) ∙ list_all-map (λ part. part) (is_below m) parts)
 
-pub placed_from_atom : (n : ℕ) (a : Atom) → is_placed_from n (f.Atom a) ≡ atom_is_below n a
-placed_from_atom n a = ap (is_placed_from n) (sym (f.rolls-Atom a)) ∙ ap (λ (meaning : Meaning). meaning n) (fold-roll-Formula Meaning placed_from_step (Formula-F.Atom a))
+pub numbered_from_atom : (n : ℕ) (a : Atom) → is_numbered_from n (f.Atom a) ≡ atom_is_below n a
+numbered_from_atom n a = ap (is_numbered_from n) (sym (f.rolls-Atom a)) ∙ ap (λ (meaning : Meaning). meaning n) (fold-roll-Formula Meaning numbered_from_step (Formula-F.Atom a))
 
 pub quantifiers_atom : (a : Atom) → quantifiers (f.Atom a) ≡ 0
 quantifiers_atom a = ap quantifiers (sym (f.rolls-Atom a)) ∙ fold-roll-Formula ℕ quantifiers_step (Formula-F.Atom a)

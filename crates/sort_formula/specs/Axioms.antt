@@ -4,6 +4,7 @@ use Rattle.std.specs.Prelude.{ℕ, suc, ◌&&◌, ℤ, pos, neg_ℤ, Bool, List,
 use Rattle.std.specs.List.{flat_map, zip}
 use Rattle.std.specs.Option.{option_map_or}
 use Rattle.lint_core.specs.declared.condition.Cond.{Cond}
+use Rattle.lint_core.specs.declared.database.KeyName.{KeyName}
 use Rattle.lint_core.specs.declared.schema.Column.{Column}
 use Rattle.lint_core.specs.declared.schema.Key.{Key}
 use Rattle.lint_core.specs.declared.schema.ForeignKey.{ForeignKey}
@@ -18,15 +19,10 @@ use Rattle.sort_formula.specs.Negated.{negated}
 use Rattle.sort_formula.specs.Sides.{Scope}
 use Rattle.sort_formula.specs.Translation.{is_false_formula}
 
--- a foreign key, by its table and its number
-pub record ForeignName : Type 0 where
-  pub table : ℕ
-  pub index : ℕ
-
 -- a sentence, and the foreign key that it states, if it states one
 pub record Axiom : Type 0 where
   pub sentence : Formula
-  pub key : Option ForeignName
+  pub key : Option KeyName
 
 abbrev pub plain : Formula → Axiom
 plain sentence = record { sentence = sentence; key = None }
@@ -67,7 +63,7 @@ module _ (schema : List Table) (number : ℕ) (table : Table) where
 
   -- the CHECK is false at no row
   abbrev pub row_scope : Scope
-  row_scope = record { variables = (0 ∷ []) ∷ []; tables = (number ∷ []) ∷ []; depth = 1 }
+  row_scope = record { levels = (0 ∷ []) ∷ []; tables = (number ∷ []) ∷ []; depth = 1 }
 
   abbrev pub check_axiom : Cond → Axiom
   check_axiom check = plain (f.Forall number (negated (is_false_formula schema check row_scope)))

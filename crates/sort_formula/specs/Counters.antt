@@ -24,20 +24,9 @@ use Rattle.sort_formula.specs.declared.formula.Atom.TheVariants as atom
 use Rattle.sort_formula.specs.declared.formula.Formula.{Formula}
 use Rattle.sort_formula.specs.declared.formula.Formula.TheVariants as f
 use Rattle.sort_formula.specs.Axioms.{le, equal_cells}
-use Rattle.sort_formula.specs.Negated.{negated, null_of}
-use Rattle.sort_formula.specs.Sides.{Scope, nothing, side_of, is_text_term, is_null_formula, not_null_formula}
-use Rattle.sort_formula.specs.Translation.{is_true_formula, exist_rows, for_all_rows, from_number}
-
--- a scope whose levels have variables in order, from 0
-abbrev pub numbered_from : ℕ → List (List ℕ) → List (List ℕ)
-numbered_from first [] = []
-numbered_from first (level ∷ levels) = from_number first (length level) ∷ numbered_from (first + length level) levels
-
-abbrev pub all_of : List (List ℕ) → List ℕ
-all_of levels = flat_map (λ level. level) levels
-
-abbrev pub scope_of : List (List ℕ) → Scope
-scope_of tables = record { variables = numbered_from 0 tables; tables = tables; depth = length (all_of tables) }
+use Rattle.sort_formula.specs.Negated.{negated}
+use Rattle.sort_formula.specs.Sides.{Scope, nothing, from_number, all_of, scope_of, numbered_from, side_of, is_text_term, is_null_formula, not_null_formula}
+use Rattle.sort_formula.specs.Translation.{is_true_formula, exist_rows}
 
 -- all levels but the last, and the last one
 abbrev pub outer_levels : List (List ℕ) → List (List ℕ)
@@ -75,14 +64,14 @@ module _ (schema : List Table) where
     -- the same outside, with the variables of the second row
     abbrev pub second_scope : Scope
     second_scope = record {
-      variables = numbered_from 0 (outer_levels sub.tables) ++ from_number first_scope.depth own_count ∷ [];
+      levels = numbered_from 0 (outer_levels sub.tables) ++ from_number first_scope.depth own_count ∷ [];
       tables = sub.tables;
       depth = first_scope.depth + own_count;
     }
 
     -- both are quantified before either condition
     abbrev pub deeper : Scope → Scope
-    deeper scope = record { variables = scope.variables; tables = scope.tables; depth = second_scope.depth }
+    deeper scope = record { levels = scope.levels; tables = scope.tables; depth = second_scope.depth }
 
     abbrev pub two_rows : Formula
     two_rows =
@@ -90,7 +79,7 @@ module _ (schema : List Table) where
         (f.And (
         is_true_formula schema sub.cond (deeper first_scope)
         ∷ is_true_formula schema sub.cond second_scope
-        ∷ some_other (last_level first_scope.variables) (last_level second_scope.variables) ∷ []
+        ∷ some_other (last_level first_scope.levels) (last_level second_scope.levels) ∷ []
         ))
 
     -- E10: the subquery selects NULL
@@ -122,7 +111,7 @@ module _ (schema : List Table) where
     count = length own
 
     abbrev pub twice_scope : List ℕ → Scope
-    twice_scope variables = record { variables = variables ∷ []; tables = own ∷ []; depth = count + count }
+    twice_scope variables = record { levels = variables ∷ []; tables = own ∷ []; depth = count + count }
 
     abbrev pub one_scope : Scope
     one_scope = twice_scope (from_number 0 count)
@@ -163,7 +152,7 @@ module _ (schema : List Table) where
     module _ (entry : ℕ) where
       -- the others have the variables from 0 on, the entry this one
       abbrev pub join_scope : ℕ → ℕ → Scope
-      join_scope variable depth = record { variables = insert (from_number 0 (count - 1)) entry variable ∷ []; tables = own ∷ []; depth = depth }
+      join_scope variable depth = record { levels = insert (from_number 0 (count - 1)) entry variable ∷ []; tables = own ∷ []; depth = depth }
 
       abbrev pub table_of_entry : ℕ
       table_of_entry = unwrap_or (slice_get own entry) 0

@@ -8,5 +8,11 @@ pub mod Nodes
 pub mod Sides
 pub mod Translation
 pub mod Axioms
+pub mod Facts
+pub mod Rings
+pub mod Chains
+pub mod Certificate
 pub mod Counters
+pub mod Loose
+pub mod Standpoint
 pub mod Rows

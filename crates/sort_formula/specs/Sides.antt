@@ -1,7 +1,8 @@
 -- Comparisons of terms as formulas. A number term is a side and a number that is added to it: a cell and its
 -- `plus`, or 0 and the literal. The bounds come from the operator's difference bounds. A comparison with NULL has
 -- neither truth, so its formula is that of nothing.
-use Rattle.std.specs.Prelude.{ℕ, ℤ, pos, ◌-ℤ◌, Bool, true, false, ◌||◌, List, [], ◌∷◌, map, Option, Some, None, unwrap_or, if◌then◌else◌}
+use Rattle.std.specs.Prelude.{ℕ, ◌+◌, ℤ, pos, ◌-ℤ◌, Bool, true, false, ◌||◌, List, [], ◌∷◌, length, map, Option, Some, None, unwrap_or, if◌then◌else◌}
+use Rattle.std.specs.List.{flat_map}
 use Rattle.std.specs.Option.{option_map_or}
 use Rattle.lint_tables.specs.declared.op.Op.{Op}
 use Rattle.lint_tables.specs.declared.op.Op.TheVariants.{Eq, Ne, Lt, Le, Gt, Ge}
@@ -13,6 +14,7 @@ use Rattle.lint_core.specs.declared.condition.Term.{Term}
 use Rattle.lint_core.specs.declared.condition.Term.TheVariants as term
 use Rattle.lint_core.specs.declared.schema.Table.{Table}
 use Rattle.lint_core.specs.Condition.{at_entry}
+use Rattle.lint_core.specs.Database.{below}
 use Rattle.lint_core.specs.Fits.{term_kind}
 use Rattle.lint_core.specs.Kind.{is_text}
 use Rattle.sort_formula.specs.declared.formula.Side.{Side}
@@ -31,13 +33,29 @@ nothing = f.Or []
 -- where a condition stands: the row variable and the table of each entry of each level, and how many quantifiers
 -- are outside
 pub record Scope : Type 0 where
-  pub variables : List (List ℕ)
+  pub levels : List (List ℕ)
   pub tables : List (List ℕ)
   pub depth : ℕ
 
+-- so many variables from this number on
+abbrev pub from_number : ℕ → ℕ → List ℕ
+from_number first count = map (λ k. first + k) (below count)
+
+-- one variable for each entry, in order
+abbrev pub numbered_from : ℕ → List (List ℕ) → List (List ℕ)
+numbered_from first [] = []
+numbered_from first (level ∷ levels) = from_number first (length level) ∷ numbered_from (first + length level) levels
+
+abbrev pub all_of : List (List ℕ) → List ℕ
+all_of levels = flat_map (λ level. level) levels
+
+-- the scope of the entries of these levels, one quantifier for each of them in order
+abbrev pub scope_of : List (List ℕ) → Scope
+scope_of tables = record { levels = numbered_from 0 tables; tables = tables; depth = length (all_of tables) }
+
 module _ (schema : List Table) (scope : Scope) where
   abbrev pub side_of : Term → Side
-  side_of (term.Cell level entry column added) = side.Cell (unwrap_or (at_entry scope.variables level entry) 0) column
+  side_of (term.Cell level entry column added) = side.Cell (unwrap_or (at_entry scope.levels level entry) 0) column
   side_of (term.Number value unit) = side.Zero
   side_of (term.Text text) = side.Text text
   side_of term.Null = side.Zero
@@ -91,13 +109,13 @@ module _ (schema : List Table) (scope : Scope) where
 
   -- IS NULL and IS NOT NULL
   abbrev pub is_null_formula : Term → Formula
-  is_null_formula (term.Cell level entry column added) = f.Atom (atom.IsNull (unwrap_or (at_entry scope.variables level entry) 0) column)
+  is_null_formula (term.Cell level entry column added) = f.Atom (atom.IsNull (unwrap_or (at_entry scope.levels level entry) 0) column)
   is_null_formula (term.Number value unit) = nothing
   is_null_formula (term.Text text) = nothing
   is_null_formula term.Null = everything
 
   abbrev pub not_null_formula : Term → Formula
-  not_null_formula (term.Cell level entry column added) = f.Atom (atom.NotNull (unwrap_or (at_entry scope.variables level entry) 0) column)
+  not_null_formula (term.Cell level entry column added) = f.Atom (atom.NotNull (unwrap_or (at_entry scope.levels level entry) 0) column)
   not_null_formula (term.Number value unit) = everything
   not_null_formula (term.Text text) = everything
   not_null_formula term.Null = nothing

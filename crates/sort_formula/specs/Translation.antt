@@ -8,12 +8,11 @@ use Rattle.lint_core.specs.declared.condition.Cond.{Cond, fold-Cond}
 use Rattle.lint_core.specs.declared.condition.Cond.TheOpen.{Cond-F, Block-F}
 use Rattle.lint_core.specs.declared.condition.Term.{Term}
 use Rattle.lint_core.specs.declared.schema.Table.{Table}
-use Rattle.lint_core.specs.Database.{below}
 use Rattle.lint_core.specs.Fits.{tables_of}
 use Rattle.sort_formula.specs.declared.formula.Formula.{Formula}
 use Rattle.sort_formula.specs.declared.formula.Formula.TheVariants as f
 use Rattle.sort_formula.specs.Negated.{negated}
-use Rattle.sort_formula.specs.Sides.{Scope, everything, nothing, compare_formula, compare_false_formula, is_null_formula, not_null_formula}
+use Rattle.sort_formula.specs.Sides.{Scope, from_number, everything, nothing, compare_formula, compare_false_formula, is_null_formula, not_null_formula}
 
 -- the formulas of a condition
 pub record Both : Type 0 where
@@ -32,14 +31,10 @@ abbrev pub for_all_rows : List ℕ → Formula → Formula
 for_all_rows [] body = body
 for_all_rows (table ∷ tables) body = f.Forall table (for_all_rows tables body)
 
--- so many variables from this number on
-abbrev pub from_number : ℕ → ℕ → List ℕ
-from_number first count = map (λ k. first + k) (below count)
-
 -- one more level, whose entries are bound by the next quantifiers
 abbrev pub inside : Scope → List ℕ → Scope
 inside scope own = record {
-  variables = scope.variables ++ from_number scope.depth (length own) ∷ [];
+  levels = scope.levels ++ from_number scope.depth (length own) ∷ [];
   tables = scope.tables ++ own ∷ [];
   depth = scope.depth + length own;
 }

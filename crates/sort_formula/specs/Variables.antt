@@ -27,16 +27,16 @@ atom_is_below n (atom.Other row other) = nat_lt row n && nat_lt other n
 abbrev pub Meaning : Type 0
 Meaning = ℕ → Bool
 
-abbrev pub placed_from_step : Formula-F Meaning → Meaning
-placed_from_step (Formula-F.Atom a) n = atom_is_below n a
-placed_from_step (Formula-F.And parts) n = list_all (λ part. part n) parts
-placed_from_step (Formula-F.Or parts) n = list_all (λ part. part n) parts
-placed_from_step (Formula-F.Exists table body) n = body (suc n)
-placed_from_step (Formula-F.Forall table body) n = body (suc n)
+abbrev pub numbered_from_step : Formula-F Meaning → Meaning
+numbered_from_step (Formula-F.Atom a) n = atom_is_below n a
+numbered_from_step (Formula-F.And parts) n = list_all (λ part. part n) parts
+numbered_from_step (Formula-F.Or parts) n = list_all (λ part. part n) parts
+numbered_from_step (Formula-F.Exists table body) n = body (suc n)
+numbered_from_step (Formula-F.Forall table body) n = body (suc n)
 
 -- each variable is below the number of quantifiers outside it, of which n stand outside the formula
-abbrev pub is_placed_from : ℕ → Formula → Bool
-is_placed_from n formula = fold-Formula Meaning placed_from_step formula n
+abbrev pub is_numbered_from : ℕ → Formula → Bool
+is_numbered_from n formula = fold-Formula Meaning numbered_from_step formula n
 
 abbrev pub below_step : ℕ → Formula-F Bool → Bool
 below_step n (Formula-F.Atom a) = atom_is_below n a

@@ -3,7 +3,7 @@ ghost use Rattle.std.specs.Prelude.{◌≡◌, ◌+◌, ◌-◌, ◌<◌, ◌^�
 ghost use Rattle.std.specs.List.{list_all};
 ghost use Rattle.sort_formula.specs.Nodes.{quantifiers};
 ghost use Rattle.sort_formula.specs.Placed.{placed_row, placed_side, placed_atom, placed};
-ghost use Rattle.sort_formula.specs.Variables.{side_is_below, atom_is_below, is_placed_from, is_below};
+ghost use Rattle.sort_formula.specs.Variables.{side_is_below, atom_is_below, is_numbered_from, is_below};
 
 use crate::formula::{Atom, Formula, Side};
 use lint_base::{Items, NoMemory};
@@ -127,7 +127,7 @@ fn place_parts(
 /// outside the formula, and the formula's own quantifiers are counted from `depth` on. `NoMemory` where there is
 /// no memory for all of it.
 pub fn place(alloc: Global, formula: &Formula, map: &[u32], depth: u32) -> Result<Formula, NoMemory>
-    requires variables { is_placed_from (length map.now) formula.now ≡ true }
+    requires variables { is_numbered_from (length map.now) formula.now ≡ true }
     requires depth { depth + quantifiers formula.now < 2 ^ 32 }
     ensures { IfOk result (λ f. f ≡ placed map.now depth formula.now) }
 {

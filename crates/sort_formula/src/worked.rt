@@ -17,7 +17,7 @@ ghost use Rattle.sort_formula.specs.Translation.{is_true_formula};
 /// That a column differs from 5 says that it is at most 4 or at least 6; a key says of any two rows that they are
 /// one, or one has a NULL, or the columns differ. DISTINCT is needed where two rows are not distinct: both NULL, or equal.
 pub fn worked_formulas()
-    ensures differs { let scope : Scope = record { variables = (0 ∷ []) ∷ []; tables = (0 ∷ []) ∷ []; depth = 1 } in
+    ensures differs { let scope : Scope = record { levels = (0 ∷ []) ∷ []; tables = (0 ∷ []) ∷ []; depth = 1 } in
         is_true_formula plain (Compare Ne the_column (number 5) nowhere) scope
         ≡ Or (Fact (Le (Cell 0 0) Zero (pos 4)) ∷ Fact (Le Zero (Cell 0 0) (neg_ℤ (pos 6))) ∷ []) }
     ensures key { axioms unique ≡ record {

@@ -12,7 +12,7 @@ use Rattle.sort_formula.proofs.Translated.{translation_compare, translation_true
 use Rattle.sort_formula.proofs.worked.worked_formulas.Goals as goal
 
 pub returns-clause-differs : goal.returns-clause-differs
-returns-clause-differs c = ap (λ (b : Both). b.true) (translation_compare plain Ne the_column (number 5) nowhere (record { variables = (0 ∷ []) ∷ []; tables = (0 ∷ []) ∷ []; depth = 1 }))
+returns-clause-differs c = ap (λ (b : Both). b.true) (translation_compare plain Ne the_column (number 5) nowhere (record { levels = (0 ∷ []) ∷ []; tables = (0 ∷ []) ∷ []; depth = 1 }))
 
 pub returns-clause-key : goal.returns-clause-key
 returns-clause-key c = refl
@@ -35,7 +35,7 @@ returns-clause-needless_distinct g =
     rw (
       own_is,
       is_everywhere,
-      translation_true plain (record { variables = (0 ∷ []) ∷ []; tables = (0 ∷ []) ∷ []; depth = 2 }),
-      translation_true plain (record { variables = (1 ∷ []) ∷ []; tables = (0 ∷ []) ∷ []; depth = 2 }),
+      translation_true plain (record { levels = (0 ∷ []) ∷ []; tables = (0 ∷ []) ∷ []; depth = 2 }),
+      translation_true plain (record { levels = (1 ∷ []) ∷ []; tables = (0 ∷ []) ∷ []; depth = 2 }),
     )
     refl
