@@ -45,7 +45,7 @@ at_row row branch rows layer = None
 
 -- a step that opens a fact
 abbrev pub opened : Branch → ℕ → (Branch → List ℕ → Formula-F Formula → Option (List Branch)) → Option (List Branch)
-opened branch fact open = option_and_then (λ (x : Fact). open branch x.rows (out-Formula x.formula)) (slice_get branch.facts fact)
+opened branch fact children_of = option_and_then (λ (x : Fact). children_of branch x.rows (out-Formula x.formula)) (slice_get branch.facts fact)
 
 -- a step that closes the branch
 abbrev pub closed_if : Bool → Option (List Branch)
