@@ -3,4 +3,4 @@ use Rattle.constraint_axioms.specs.declared.axiom.Axiom.{Axiom}
 use Rattle.sort_formula.specs.Axioms as listed
 
 abbrev pub spoken : Axiom → listed.Axiom
-spoken axiom = record { sentence = axiom.sentence; key = axiom.key }
+spoken stated = record { sentence = stated.sentence; key = stated.key }
