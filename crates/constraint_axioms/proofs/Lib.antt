@@ -1,2 +1,4 @@
 mod Tests
 mod Values
+mod NotNull
+mod Keys
