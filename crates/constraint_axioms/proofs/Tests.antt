@@ -1,11 +1,12 @@
 -- Tests of all and of some elements of lists.
-use Rattle.std.proofs.Common.{◌≡◌, ◌∙◌, refl, sym, ap, ap₂, ℕ, zero, suc, Bool, true, false, ◌&&◌, ◌||◌, List, [], ◌∷◌, ◌++◌, map, length}
+use Rattle.std.proofs.Common.{◌≡◌, ◌∙◌, refl, sym, ap, ap₂, ℕ, zero, suc, Bool, true, false, ◌&&◌, List, [], ◌∷◌, ◌++◌, map, length}
 use Rattle.std.proofs.lemmas.List.{map-append}
-use Rattle.std.proofs.lemmas.List.Folds.{list_all-map, list_any-append, list_all-append}
-use Rattle.std.specs.List.{list_any, list_all, flat_map}
+use Rattle.std.proofs.lemmas.List.Folds.{list_all-map}
+use Rattle.std.specs.List.{list_any, list_all}
 use Rattle.std.specs.Prelude.{Option, Some, slice_get}
-use Rattle.lint_core.specs.Database.{below}
-use Rattle.sort_formula.proofs.Lists.{both_left, both_right, all_alike}
+use Rattle.lint_core.specs.declared.database.Database.{Database}
+use Rattle.lint_core.specs.Database.{Place, below, rows_of, places_of}
+use Rattle.sort_formula.proofs.Lists.{any_map, both_left, both_right, all_alike, any_alike}
 
 -- two tests that agree where a third says yes agree on a list of which that says yes
 pub all_where : {A : Type 0} (t p q : A → Bool) → ((x : A) → t x ≡ true → p x ≡ q x) → (xs : List A) → list_all t xs ≡ true → list_all p xs ≡ list_all q xs
@@ -27,14 +28,6 @@ pub all_true : {A : Type 0} (xs : List A) → list_all (λ (x : A). true) xs ≡
 all_true [] = refl
 all_true (x ∷ xs) = all_true xs
 
-pub all_flat_map : {A B : Type 0} (p : B → Bool) (f : A → List B) (xs : List A) → list_all p (flat_map f xs) ≡ list_all (λ x. list_all p (f x)) xs
-all_flat_map p f [] = refl
-all_flat_map p f (x ∷ xs) = list_all-append p (f x) (flat_map f xs) ∙ ap (λ b. list_all p (f x) && b) (all_flat_map p f xs)
-
-pub any_flat_map : {A B : Type 0} (p : B → Bool) (f : A → List B) (xs : List A) → list_any p (flat_map f xs) ≡ list_any (λ x. list_any p (f x)) xs
-any_flat_map p f [] = refl
-any_flat_map p f (x ∷ xs) = list_any-append p (f x) (flat_map f xs) ∙ ap (λ b. list_any p (f x) || b) (any_flat_map p f xs)
-
 -- the numbers below one more, the first alone
 below_more : (n : ℕ) → below (suc n) ≡ zero ∷ map suc (below n)
 below_more zero = refl
@@ -46,3 +39,18 @@ all_places p [] = refl
 all_places p (x ∷ xs) =
     ap (list_all (λ k. p (slice_get (x ∷ xs) k))) (below_more (length xs))
     ∙ ap (λ b. p (Some x) && b) (list_all-map (λ k. p (slice_get (x ∷ xs) k)) suc (below (length xs)) ∙ all_places p xs)
+
+module _ (db : Database) (number : ℕ) where
+  abbrev pub place_in : ℕ → Place
+  place_in row = record { table = number; row = row }
+
+  -- of all rows of a table, and of some row
+  pub over_all : (p q : Place → Bool) → ((row : ℕ) → p (place_in row) ≡ q (place_in row)) → list_all p (places_of db number) ≡ list_all q (places_of db number)
+  over_all p q alike =
+      let rows = below (length (rows_of db number)) in
+      list_all-map p place_in rows ∙ (all_alike (λ row. q (place_in row)) (λ row. p (place_in row)) alike rows ∙ sym (list_all-map q place_in rows))
+
+  pub over_some : (p q : Place → Bool) → ((row : ℕ) → p (place_in row) ≡ q (place_in row)) → list_any p (places_of db number) ≡ list_any q (places_of db number)
+  over_some p q alike =
+      let rows = below (length (rows_of db number)) in
+      any_map place_in p rows ∙ (any_alike (λ row. q (place_in row)) (λ row. p (place_in row)) alike rows ∙ sym (any_map place_in q rows))

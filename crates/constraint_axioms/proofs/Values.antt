@@ -1,5 +1,5 @@
 -- The values of a table's columns in a database of the domains: their kinds, and when they are equal and differ.
-use Rattle.std.proofs.Common.{◌≡◌, ◌∙◌, refl, sym, ap, ap₂, subst, ℕ, zero, suc, ℤ, pos, neg_ℤ, ◌-ℤ◌, Bool, true, false, not, ◌&&◌, ◌||◌, if◌then◌else◌, List, [], ◌∷◌, ◌++◌, map, length, arith}
+use Rattle.std.proofs.Common.{◌≡◌, ◌∙◌, refl, sym, ap, ap₂, subst, ℕ, zero, suc, ℤ, pos, neg_ℤ, ◌-ℤ◌, Bool, true, false, not, ◌&&◌, ◌||◌, List, [], ◌∷◌, length, arith}
 use Rattle.std.proofs.lemmas.Int.{ints}
 use Rattle.std.proofs.lemmas.Bool.Decides.{nat_tests}
 use Rattle.std.proofs.lemmas.Option.{same_Some}
@@ -25,8 +25,6 @@ use Rattle.lint_core.specs.Truth.{truth_of, is_true}
 use Rattle.sort_formula.specs.declared.formula.Side.{Side}
 use Rattle.sort_formula.specs.declared.formula.Side.TheVariants as side
 use Rattle.sort_formula.specs.declared.formula.Atom.TheVariants as atom
-use Rattle.sort_formula.specs.declared.formula.Formula.{Formula}
-use Rattle.sort_formula.specs.declared.formula.Formula.TheVariants as f
 use Rattle.sort_formula.specs.Axioms.{equal_cells, different_cells, is_text_column, le}
 use Rattle.sort_formula.specs.Holds.{holds, side_value, cell_value, differ_by_at_most, are_texts}
 use Rattle.sort_formula.specs.Rows.{tables_of_rows}
@@ -156,8 +154,8 @@ module _ (schema : List Table) (db : Database) (domains : is_of_domains schema d
       is_some (slice_get table.columns column) ≡ true → is_of (is_text_column table column) (cell_value db rows row column) ≡ true
   cell_is rows row number column table of_number at there =
       let kind : kind_at schema (tables_of_rows rows) row column ≡ column_kind table column =
-          ap (option_and_then (λ t. option_and_then (λ table. column_kind table column) (slice_get schema t))) of_number
-          ∙ ap (option_and_then (λ table. column_kind table column)) at in
+      ap (option_and_then (λ t. option_and_then (λ table. column_kind table column) (slice_get schema t))) of_number
+      ∙ ap (option_and_then (λ table. column_kind table column)) at in
       by_column schema (slice_get table.columns column) (cell_value db rows row column) there
       (λ is. number_side schema db domains rows (side.Cell row column) (ap (λ kind. option_map_or (is_number_kind schema) kind false) kind ∙ is))
       (λ is. text_side schema db domains rows (side.Cell row column) (ap (λ kind. option_map_or is_text kind false) kind ∙ is))

@@ -1,5 +1,4 @@
-//! What the axioms say. The function does nothing: its contract is a law
-//! about the definitions in `specs/`.
+//! What the axioms say. The function does nothing: its contract is a law about the definitions in `specs/`.
 ghost use Rattle.std.specs.Prelude.{◌≡◌, true, List, []};
 ghost use Rattle.std.specs.List.{list_all};
 ghost use Rattle.lint_core.specs.declared.database.Database.{Database};
