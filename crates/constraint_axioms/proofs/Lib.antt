@@ -1,0 +1,7 @@
+mod Tests
+mod Values
+mod NotNull
+mod Keys
+mod Checks
+mod Foreign
+mod Constraints

@@ -1,15 +1,11 @@
-//! What the axioms say, and what accepted steps show with them. The functions do nothing: each contract is a law
-//! about the definitions in `specs/`.
-ghost use Rattle.std.specs.Prelude.{◌≡◌, true, false, List, []};
+//! What the axioms say. The function does nothing: its contract is a law about the definitions in `specs/`.
+ghost use Rattle.std.specs.Prelude.{◌≡◌, true, List, []};
 ghost use Rattle.std.specs.List.{list_all};
-ghost use Rattle.lint_core.specs.declared.certificate.Step.{Step};
 ghost use Rattle.lint_core.specs.declared.database.Database.{Database};
 ghost use Rattle.lint_core.specs.declared.schema.Table.{Table};
 ghost use Rattle.lint_core.specs.Meets.{is_of_domains, meets};
 ghost use Rattle.lint_core.specs.Schema.{is_schema};
-ghost use Rattle.sort_formula.specs.declared.formula.Formula.{Formula};
 ghost use Rattle.sort_formula.specs.Axioms.{Axiom as Stated, axioms};
-ghost use Rattle.sort_formula.specs.Certificate.{accepts};
 ghost use Rattle.sort_formula.specs.Holds.{holds};
 
 /// A database of the domains meets the schema exactly where all axioms hold in it.
@@ -17,11 +13,4 @@ pub fn axioms_are_the_constraints()
     ensures { (schema : List Table) → is_schema schema ≡ true
         → (db : Database) → is_of_domains schema db ≡ true
         → list_all (λ (a : Stated). holds db a.sentence []) (axioms schema) ≡ meets schema db }
-{}
-
-/// Accepted steps refute their sentence: it holds in no database that meets the schema.
-pub fn accepted_sentence_fails()
-    ensures { (schema : List Table) → is_schema schema ≡ true
-        → (sentence : Formula) (steps : List Step) → accepts schema sentence steps ≡ true
-        → (db : Database) → meets schema db ≡ true → holds db sentence [] ≡ false }
 {}
