@@ -1,0 +1,6 @@
+mod Quantified
+mod Layers
+mod Inside
+mod Selecting
+mod Says
+mod Parts
