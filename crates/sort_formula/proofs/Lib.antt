@@ -1,9 +1,9 @@
-mod Lists
+pub mod Lists
 pub mod Holding
 mod Standing
-mod Fitting
+pub mod Fitting
 mod Below
-mod Cells
-mod Complements
+pub mod Cells
+pub mod Complements
 mod Renaming
 mod Translated

@@ -19,10 +19,12 @@ use Rattle.lint_core.specs.Condition.{at_entry, place_of, term_value}
 use Rattle.lint_core.specs.Database.{Place, below, value_at}
 use Rattle.lint_core.specs.Fits.{cell_kind, term_kind}
 use Rattle.lint_core.specs.Kind.{compares_both}
+use Rattle.lint_core.specs.Meets.{is_of_domains}
 use Rattle.lint_core.specs.Naming.{names, term_names}
 use Rattle.sort_formula.specs.Sides.{Scope, from_number}
 use Rattle.sort_formula.specs.Standpoint.{IsRowOf, StandsFor}
 use Rattle.sort_formula.specs.Translation.{inside}
+use Rattle.truth_formula.proofs.Leaves.{TermStands}
 use Rattle.truth_formula.proofs.Quantified.{place_in, places_in}
 
 -- ---- what stands at a level and an entry
@@ -164,23 +166,16 @@ one_level xs ys x y same last =
 
 -- ---- where a term stands
 
--- the variable of a cell has the row of the cell
-abbrev pub TermStands : Database → Scope → List (List ℕ) → List Place → Term → Type 0
-TermStands db scope binding rows (term.Cell level entry column added) = IsRowOf db scope binding rows level entry
-TermStands db scope binding rows (term.Number value unit) = Unit {0}
-TermStands db scope binding rows (term.Text text) = Unit {0}
-TermStands db scope binding rows term.Null = Unit {0}
-
 same_number : (n : ℕ) → nat_eq n n ≡ true
 same_number n = grind (arith, nat_tests)
 
-pub term_stands : (db : Database) (scope : Scope) (binding : List (List ℕ)) (rows : List Place) (cond : Cond) → StandsFor db scope binding rows cond →
-    (t : Term) → ((entry : ℕ) → term_names entry t ≡ true → names entry cond ≡ true) → TermStands db scope binding rows t
-term_stands db scope binding rows cond stands (term.Cell zero entry column added) named = stands.main entry (named entry (same_number entry))
-term_stands db scope binding rows cond stands (term.Cell (suc level) entry column added) named = stands.inner level entry
-term_stands db scope binding rows cond stands (term.Number value unit) named = tt
-term_stands db scope binding rows cond stands (term.Text text) named = tt
-term_stands db scope binding rows cond stands term.Null named = tt
+module _ (schema : List Table) (db : Database) (domains : is_of_domains schema db ≡ true) (scope : Scope) (binding : List (List ℕ)) (rows : List Place) where
+  pub term_stands : (cond : Cond) → StandsFor db scope binding rows cond → (t : Term) → ((entry : ℕ) → term_names entry t ≡ true → names entry cond ≡ true) → TermStands schema db domains scope binding rows t
+  term_stands cond stands (term.Cell zero entry column added) named = stands.main entry (named entry (same_number entry))
+  term_stands cond stands (term.Cell (suc level) entry column added) named = stands.inner level entry
+  term_stands cond stands (term.Number value unit) named = tt
+  term_stands cond stands (term.Text text) named = tt
+  term_stands cond stands term.Null named = tt
 
 -- a condition that names no more stands there too
 pub part_stands : (db : Database) (scope : Scope) (binding : List (List ℕ)) (rows : List Place) (cond part : Cond) → ((entry : ℕ) → names entry part ≡ true → names entry cond ≡ true) →

@@ -1,6 +1,10 @@
+pub mod Comparing
+pub mod Cells
+pub mod Leaves
 mod Quantified
 mod Layers
 mod Inside
 mod Selecting
 mod Says
 mod Parts
+mod Subqueries

@@ -18,6 +18,7 @@ use Rattle.lint_core.specs.Condition.{truth, term_value}
 use Rattle.lint_core.specs.Database.{Place}
 use Rattle.lint_core.specs.Evaluation.{Evaluated, and_then, map_ok, all_ok}
 use Rattle.lint_core.specs.Fits.{cond_fits}
+use Rattle.lint_core.specs.Meets.{is_of_domains}
 use Rattle.lint_core.specs.Naming.{names, term_names}
 use Rattle.lint_core.specs.Truth.{is_true, is_false, truth_of, not_of, negated_if, least, and_of, or_of}
 use Rattle.lint_core.proofs.Conditions.{truth_true, truth_false, truth_and, truth_or, truth_not, truth_compare, truth_is_null, least_true}
@@ -27,17 +28,18 @@ use Rattle.sort_formula.specs.Sides.{Scope, everything, nothing, is_null_formula
 use Rattle.sort_formula.specs.Standpoint.{StandsFor}
 use Rattle.sort_formula.specs.Translation.{Both, translation, swapped_if, is_true_formula, is_false_formula}
 use Rattle.sort_formula.proofs.Holding.{holds_and, holds_or}
-use Rattle.truth_formula.proofs.Inside.{TermStands, term_stands, part_stands}
+use Rattle.truth_formula.proofs.Inside.{term_stands, part_stands}
 use Rattle.truth_formula.proofs.Layers.{translation_true, translation_false, translation_and, translation_or, translation_not, translation_compare, translation_is_null, fits_and, fits_or, fits_not, fits_compare, fits_is_null, names_and, names_or, names_not, names_compare, names_is_null}
+use Rattle.truth_formula.proofs.Leaves.{compare_true, compare_false, null_says}
 use Rattle.truth_formula.proofs.Quantified.{any_map}
-use Rattle.truth_formula.proofs.Says.{LeavesSay, BothSay, Says}
+use Rattle.truth_formula.proofs.Says.{BothSay, Says}
 use Rattle.truth_formula.proofs.Selecting.{or_is_true, or_is_false}
 
-both_left : (a b : Bool) → (a && b) ≡ true → a ≡ true
+pub both_left : (a b : Bool) → (a && b) ≡ true → a ≡ true
 both_left true b both = refl
 both_left false b both = both
 
-both_right : (a b : Bool) → (a && b) ≡ true → b ≡ true
+pub both_right : (a b : Bool) → (a && b) ≡ true → b ≡ true
 both_right true b both = both
 both_right false b both = cc
 
@@ -201,18 +203,18 @@ module _ (schema : List Table) (db : Database) where
 
   -- ---- leaves
 
-  module _ (leaves : LeavesSay schema db) where
+  module _ (domains : is_of_domains schema db ≡ true) where
     pub of_compare : (op : Op) (left right : Term) (span : Span) → Says schema db (c.Compare op left right span)
     of_compare op left right span scope fits binding rows stands t known =
         let whole = c.Compare op left right span in
         let is = ok_is (compare op (term_value db scope.tables binding left) (term_value db scope.tables binding right)) t (sym (truth_compare db op left right span scope.tables binding) ∙ known) in
-        let left_stands = term_stands db scope binding rows whole stands left (λ entry named. names_compare entry op left right span ∙ or_left (term_names entry left) (term_names entry right) named) in
-        let right_stands = term_stands db scope binding rows whole stands right (λ entry named. names_compare entry op left right span ∙ or_right (term_names entry left) (term_names entry right) named) in
+        let left_stands = term_stands schema db domains scope binding rows whole stands left (λ entry named. names_compare entry op left right span ∙ or_left (term_names entry left) (term_names entry right) named) in
+        let right_stands = term_stands schema db domains scope binding rows whole stands right (λ entry named. names_compare entry op left right span ∙ or_right (term_names entry left) (term_names entry right) named) in
         let both = sym (fits_compare schema scope.tables op left right span) ∙ fits in
         by_layer whole scope rows t _ (translation_compare schema scope op left right span)
         (
-          leaves.compare_true scope binding rows op left right left_stands right_stands stands.variables both ∙ ap is_true is,
-          leaves.compare_false scope binding rows op left right left_stands right_stands stands.variables both ∙ ap is_false is,
+          compare_true schema db domains scope binding rows op left right left_stands right_stands stands.variables both ∙ ap is_true is,
+          compare_false schema db domains scope binding rows op left right left_stands right_stands stands.variables both ∙ ap is_false is,
         )
 
     pub of_is_null : (u : Term) (negated : Bool) (span : Span) → Says schema db (c.IsNull u negated span)
@@ -220,9 +222,10 @@ module _ (schema : List Table) (db : Database) where
         let whole = c.IsNull u negated span in
         let null = is_null (term_value db scope.tables binding u) in
         let is = ok_is (negated_if negated (truth_of null)) t (sym (truth_is_null db u negated span scope.tables binding) ∙ known) in
-        let term_is = term_stands db scope binding rows whole stands u (λ entry named. names_is_null entry u negated span ∙ named) in
+        let term_is = term_stands schema db domains scope binding rows whole stands u (λ entry named. names_is_null entry u negated span ∙ named) in
         let fit = sym (fits_is_null schema scope.tables u negated span) ∙ fits in
+        let says = null_says schema db domains scope binding rows u term_is stands.variables fit in
         by_layer whole scope rows t _ (translation_is_null schema scope u negated span)
         (subst (BothSay schema db (swapped_if negated (record { true = is_null_formula schema scope u; false = not_null_formula schema scope u })) rows) is
         (swapped schema db negated (record { true = is_null_formula schema scope u; false = not_null_formula schema scope u }) rows (truth_of null)
-        (leaves.null scope binding rows u term_is stands.variables fit ∙ sym (test_is_true null), leaves.not_null scope binding rows u term_is stands.variables fit ∙ sym (test_is_false null))))
+        (says.0 ∙ sym (test_is_true null), says.1 ∙ sym (test_is_false null))))

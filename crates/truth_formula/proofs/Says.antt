@@ -1,4 +1,4 @@
--- What is shown of each condition, and what is taken of the formulas of comparisons and of IS NULL.
+-- What is shown of each condition.
 use Rattle.std.proofs.Common.{◌≡◌, ◌∙◌, ap, sym, refl, ℕ, suc, Bool, true, false, not, ◌&&◌, List, map, length}
 use Rattle.std.specs.Prelude.{Ok, slice_get, option_and_then, nat_lt}
 use Rattle.lint_tables.specs.declared.op.Op.{Op}
@@ -19,26 +19,8 @@ use Rattle.sort_formula.specs.Sentences.{formula_fits}
 use Rattle.sort_formula.specs.Sides.{Scope, compare_formula, compare_false_formula, is_null_formula, not_null_formula}
 use Rattle.sort_formula.specs.Standpoint.{StandsFor}
 use Rattle.sort_formula.specs.Translation.{Both, translation, is_true_formula}
-use Rattle.truth_formula.proofs.Inside.{TermStands}
 
 module _ (schema : List Table) (db : Database) where
-  -- the formulas of a comparison and of IS NULL say so
-  pub record LeavesSay : Type 0 where
-    pub compare_true : (scope : Scope) (binding : List (List ℕ)) (rows : List Place) (op : Op) (a b : Term) →
-        TermStands db scope binding rows a → TermStands db scope binding rows b → map length scope.levels ≡ map length scope.tables →
-        compares_both op (term_kind schema scope.tables a) (term_kind schema scope.tables b) ≡ true →
-        holds db (compare_formula schema scope op a b) rows ≡ is_true (compare op (term_value db scope.tables binding a) (term_value db scope.tables binding b))
-    pub compare_false : (scope : Scope) (binding : List (List ℕ)) (rows : List Place) (op : Op) (a b : Term) →
-        TermStands db scope binding rows a → TermStands db scope binding rows b → map length scope.levels ≡ map length scope.tables →
-        compares_both op (term_kind schema scope.tables a) (term_kind schema scope.tables b) ≡ true →
-        holds db (compare_false_formula schema scope op a b) rows ≡ is_false (compare op (term_value db scope.tables binding a) (term_value db scope.tables binding b))
-    pub null : (scope : Scope) (binding : List (List ℕ)) (rows : List Place) (t : Term) →
-        TermStands db scope binding rows t → map length scope.levels ≡ map length scope.tables → term_fits schema scope.tables t ≡ true →
-        holds db (is_null_formula schema scope t) rows ≡ is_null (term_value db scope.tables binding t)
-    pub not_null : (scope : Scope) (binding : List (List ℕ)) (rows : List Place) (t : Term) →
-        TermStands db scope binding rows t → map length scope.levels ≡ map length scope.tables → term_fits schema scope.tables t ≡ true →
-        holds db (not_null_formula schema scope t) rows ≡ not (is_null (term_value db scope.tables binding t))
-
   -- the formula that a condition is true fits
   abbrev pub FormulasFit : Type 0
   FormulasFit =
