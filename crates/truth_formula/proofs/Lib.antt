@@ -8,3 +8,4 @@ mod Selecting
 mod Says
 mod Parts
 mod Subqueries
+mod Truthful
