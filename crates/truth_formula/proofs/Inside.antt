@@ -1,5 +1,5 @@
 -- A step into a block keeps where a condition stands: the inner scope's variables have the rows of the inner binding.
-use Rattle.std.proofs.Common.{◌≡◌, ◌∙◌, ◌+◌, ◌<◌, ◌≤◌, sym, ap, ap₂, refl, subst, ℕ, zero, suc, Bool, true, false, ◌&&◌, nat_eq, List, [], ◌∷◌, ◌++◌, length, map, inl, inr, arith}
+use Rattle.std.proofs.Common.{◌≡◌, ◌∙◌, ◌+◌, ◌<◌, ◌≤◌, sym, ap, ap₂, refl, subst, ℕ, zero, suc, true, nat_eq, List, [], ◌∷◌, ◌++◌, length, map, inl, inr, arith}
 use Rattle.std.proofs.lemmas.Bool.{cases_lt}
 use Rattle.std.proofs.lemmas.Bool.Decides.{nat_tests}
 use Rattle.std.proofs.lemmas.List.{length-append, map-append}
@@ -24,39 +24,18 @@ use Rattle.lint_core.specs.Naming.{names, term_names}
 use Rattle.sort_formula.specs.Sides.{Scope, from_number}
 use Rattle.sort_formula.specs.Standpoint.{IsRowOf, StandsFor}
 use Rattle.sort_formula.specs.Translation.{inside}
+use Rattle.sort_formula.proofs.Lists.{slice_get_front, slice_get_past as get_after, slice_get_within, slice_get_last}
 use Rattle.truth_formula.proofs.Leaves.{TermStands}
 use Rattle.truth_formula.proofs.Quantified.{place_in, places_in}
 
 -- ---- what stands at a level and an entry
 
-get_front : {A : Type 0} (xs : List A) (y : A) (i : ℕ) → i < length xs → slice_get (xs ++ y ∷ []) i ≡ slice_get xs i
-get_front [] y i low = absurd (omega arith)
-get_front (x ∷ xs) y zero low = refl
-get_front (x ∷ xs) y (suc i) low = get_front xs y i (omega arith)
-
-get_last : {A : Type 0} (xs : List A) (y : A) → slice_get (xs ++ y ∷ []) (length xs) ≡ slice_get (y ∷ []) 0
-get_last [] y = refl
-get_last (x ∷ xs) y = get_last xs y
-
-get_first : {A : Type 0} (xs ys : List A) (i : ℕ) (x : A) → slice_get xs i ≡ Some x → slice_get (xs ++ ys) i ≡ Some x
-get_first [] ys i x at = cc
-get_first (x' ∷ xs) ys zero x at = at
-get_first (x' ∷ xs) ys (suc i) x at = get_first xs ys i x at
-
-get_later : {A : Type 0} (xs ys : List A) (i : ℕ) → slice_get (xs ++ ys) (length xs + i) ≡ slice_get ys i
-get_later [] ys i =
-    let none : 0 + i ≡ i = omega arith in
-    ap (slice_get ys) none
-get_later (x ∷ xs) ys i =
-    let one : length (x ∷ xs) + i ≡ suc (length xs + i) = omega arith in
-    ap (slice_get (x ∷ (xs ++ ys))) one ∙ get_later xs ys i
-
 module _ (levels : List (List ℕ)) (own : List ℕ) (level entry : ℕ) where
   pub at_outer : level < length levels → at_entry (levels ++ own ∷ []) level entry ≡ at_entry levels level entry
-  at_outer low = ap (option_and_then (λ entries. slice_get entries entry)) (get_front levels own level low)
+  at_outer low = ap (option_and_then (λ entries. slice_get entries entry)) (slice_get_within levels (own ∷ []) level low)
 
   pub at_own : level ≡ length levels → at_entry (levels ++ own ∷ []) level entry ≡ slice_get own entry
-  at_own same = ap (λ level. at_entry (levels ++ own ∷ []) level entry) same ∙ ap (option_and_then (λ entries. slice_get entries entry)) (get_last levels own)
+  at_own same = ap (λ level. at_entry (levels ++ own ∷ []) level entry) same ∙ ap (option_and_then (λ entries. slice_get entries entry)) (slice_get_last levels own)
 
   pub at_past : length levels < level → at_entry (levels ++ own ∷ []) level entry ≡ None
   at_past far =
@@ -107,13 +86,13 @@ more_rows : (variable : Option ℕ) (rows more : List Place) (place : Option Pla
     option_and_then (slice_get rows) variable ≡ place → option_and_then (slice_get (rows ++ more)) variable ≡ place
 more_rows None rows more place same at = at
 more_rows (Some variable) rows more None same at = cc
-more_rows (Some variable) rows more (Some place) same at = get_first rows more variable place at
+more_rows (Some variable) rows more (Some place) same at = slice_get_front rows more variable place at
 
 -- ---- the block's own entries
 
 place_at : (own inner : List ℕ) (entry : ℕ) → slice_get (places_in own inner) entry ≡ place_for (slice_get own entry) (slice_get inner entry)
 place_at [] inner entry = refl
-place_at (table ∷ own) [] entry = elim (slice_get (table ∷ own) entry) as (λ t. None ≡ place_for t None) [ | None ↦ refl | Some t ↦ refl ]
+place_at (table ∷ own) [] entry = elim (slice_get (table ∷ own) entry) as (λ t. None ≡ place_for t None) [ None ↦ refl | Some t ↦ refl ]
 place_at (table ∷ own) (row ∷ inner) zero = refl
 place_at (table ∷ own) (row ∷ inner) (suc entry) = place_at own inner entry
 
@@ -125,10 +104,10 @@ below_at : (n k : ℕ) → k < n → slice_get (below n) k ≡ Some k
 below_at zero k low = absurd (omega arith)
 below_at (suc n) k low =
     elim (cases_lt k n) [
-      | inl less ↦ get_first (below n) (n ∷ []) k k (below_at n k less)
+      | inl less ↦ slice_get_front (below n) (n ∷ []) k k (below_at n k less)
       | inr more ↦
           let same : k ≡ n = omega arith in
-          let last : slice_get (below (suc n)) n ≡ Some n = ap (slice_get (below (suc n))) (sym (length_below n)) ∙ get_last (below n) n in
+          let last : slice_get (below (suc n)) n ≡ Some n = ap (slice_get (below (suc n))) (sym (length_below n)) ∙ slice_get_last (below n) n in
           subst (λ k. slice_get (below (suc n)) k ≡ Some k) (sym same) last
     ]
 
@@ -139,7 +118,7 @@ own_row rows own inner entry =
     ∙ elim (cases_lt entry (length own)) [
       | inl low ↦
           ap (λ k. option_and_then (slice_get (rows ++ places_in own inner)) (option_map (λ k. length rows + k) k)) (below_at (length own) entry low)
-          ∙ (get_later rows (places_in own inner) entry ∙ place_at own inner entry)
+          ∙ (get_after rows (places_in own inner) entry ∙ place_at own inner entry)
       | inr high ↦
           let long : length (below (length own)) ≤ entry = rw (length_below (length own)) high in
           ap (λ k. option_and_then (slice_get (rows ++ places_in own inner)) (option_map (λ k. length rows + k) k)) (slice_get_past (below (length own)) entry long)
@@ -206,8 +185,8 @@ module _ (db : Database) (scope : Scope) (binding : List (List ℕ)) (rows : Lis
       elim (cases_lt level (length scope.tables)) [
         | inl low ↦
             let there : is_some (place_of db scope.tables binding level entry) ≡ is_some (at_entry scope.levels level entry) =
-                place_there (at_entry scope.tables level entry) (at_entry binding level entry) (same_entries binding scope.tables entries level entry)
-                ∙ sym (same_entries scope.levels scope.tables variables level entry) in
+            place_there (at_entry scope.tables level entry) (at_entry binding level entry) (same_entries binding scope.tables entries level entry)
+            ∙ sym (same_entries scope.levels scope.tables variables level entry) in
             ap (option_and_then (slice_get more)) (at_outer scope.levels new level entry (omega arith))
             ∙ (more_rows (at_entry scope.levels level entry) rows (places_in own inner) (place_of db scope.tables binding level entry) there (outer low)
             ∙ sym (ap₂ place_for (at_outer scope.tables own level entry low) (at_outer binding inner level entry (omega arith))))

@@ -5,7 +5,7 @@ mod Quantified
 mod Layers
 mod Inside
 mod Selecting
-mod Says
+mod Spoken
 mod Parts
 mod Subqueries
 mod Truthful

@@ -1,5 +1,5 @@
 -- AND, OR, NOT, a comparison and IS NULL: their formulas say their truths, where those of the parts do.
-use Rattle.std.proofs.Common.{◌≡◌, ◌∙◌, ap, ap₂, subst, sym, refl, ℕ, Bool, true, false, not, ◌&&◌, ◌||◌, List, [], ◌∷◌, map, length}
+use Rattle.std.proofs.Common.{◌≡◌, ◌∙◌, ap, ap₂, subst, sym, refl, ℕ, Bool, true, false, not, ◌&&◌, ◌||◌, List, [], ◌∷◌, map}
 use Rattle.std.proofs.lemmas.Bool.{or_left, or_right}
 use Rattle.std.proofs.lemmas.List.Folds.{list_all-map}
 use Rattle.std.specs.Prelude.{Ok, Err}
@@ -16,7 +16,7 @@ use Rattle.lint_core.specs.declared.schema.Table.{Table}
 use Rattle.lint_core.specs.Comparison.{compare, is_null}
 use Rattle.lint_core.specs.Condition.{truth, term_value}
 use Rattle.lint_core.specs.Database.{Place}
-use Rattle.lint_core.specs.Evaluation.{Evaluated, and_then, map_ok, all_ok}
+use Rattle.lint_core.specs.Evaluation.{Evaluated, map_ok, all_ok}
 use Rattle.lint_core.specs.Fits.{cond_fits}
 use Rattle.lint_core.specs.Meets.{is_of_domains}
 use Rattle.lint_core.specs.Naming.{names, term_names}
@@ -28,20 +28,12 @@ use Rattle.sort_formula.specs.Sides.{Scope, everything, nothing, is_null_formula
 use Rattle.sort_formula.specs.Standpoint.{StandsFor}
 use Rattle.sort_formula.specs.Translation.{Both, translation, swapped_if, is_true_formula, is_false_formula}
 use Rattle.sort_formula.proofs.Holding.{holds_and, holds_or}
+use Rattle.sort_formula.proofs.Lists.{any_map, both_left, both_right}
 use Rattle.truth_formula.proofs.Inside.{term_stands, part_stands}
 use Rattle.truth_formula.proofs.Layers.{translation_true, translation_false, translation_and, translation_or, translation_not, translation_compare, translation_is_null, fits_and, fits_or, fits_not, fits_compare, fits_is_null, names_and, names_or, names_not, names_compare, names_is_null}
 use Rattle.truth_formula.proofs.Leaves.{compare_true, compare_false, null_says}
-use Rattle.truth_formula.proofs.Quantified.{any_map}
-use Rattle.truth_formula.proofs.Says.{BothSay, Says}
+use Rattle.truth_formula.proofs.Spoken.{BothSay, Says}
 use Rattle.truth_formula.proofs.Selecting.{or_is_true, or_is_false}
-
-pub both_left : (a b : Bool) → (a && b) ≡ true → a ≡ true
-both_left true b both = refl
-both_left false b both = both
-
-pub both_right : (a b : Bool) → (a && b) ≡ true → b ≡ true
-both_right true b both = both
-both_right false b both = cc
 
 -- ---- truths
 
@@ -176,14 +168,13 @@ module _ (schema : List Table) (db : Database) where
       let whole = c.And (conds parts) in
       let found = made and_of (all_ok (map (λ part. truth db part scope.tables binding) (conds parts))) t (sym (truth_and db (conds parts) scope.tables binding) ∙ known) in
       let say = parts_say scope binding rows whole stands parts (sym (fits_and schema scope.tables (conds parts)) ∙ fits) (λ entry named. names_and entry (conds parts) ∙ named) found.0 found.1 in
-      by_layer whole scope rows t _ (translation_and schema scope (conds parts))
-      (
+      by_layer whole scope rows t _ (translation_and schema scope (conds parts)) (
         holds_and db (map (λ part. is_true_formula schema part scope) (conds parts)) rows
-        ∙ (all_hold scope binding rows (λ part. is_true_formula schema part scope) (conds parts) is_true found.0 say.0
-        ∙ (sym (and_is_true found.0) ∙ ap is_true found.2)),
+            ∙ (all_hold scope binding rows (λ part. is_true_formula schema part scope) (conds parts) is_true found.0 say.0
+            ∙ (sym (and_is_true found.0) ∙ ap is_true found.2)),
         holds_or db (map (λ part. is_false_formula schema part scope) (conds parts)) rows
-        ∙ (any_holds scope binding rows (λ part. is_false_formula schema part scope) (conds parts) is_false found.0 say.1
-        ∙ (sym (and_is_false found.0) ∙ ap is_false found.2)),
+            ∙ (any_holds scope binding rows (λ part. is_false_formula schema part scope) (conds parts) is_false found.0 say.1
+            ∙ (sym (and_is_false found.0) ∙ ap is_false found.2)),
       )
 
   pub of_or : (parts : List Part) → Says schema db (c.Or (conds parts))
@@ -191,14 +182,13 @@ module _ (schema : List Table) (db : Database) where
       let whole = c.Or (conds parts) in
       let found = made or_of (all_ok (map (λ part. truth db part scope.tables binding) (conds parts))) t (sym (truth_or db (conds parts) scope.tables binding) ∙ known) in
       let say = parts_say scope binding rows whole stands parts (sym (fits_or schema scope.tables (conds parts)) ∙ fits) (λ entry named. names_or entry (conds parts) ∙ named) found.0 found.1 in
-      by_layer whole scope rows t _ (translation_or schema scope (conds parts))
-      (
+      by_layer whole scope rows t _ (translation_or schema scope (conds parts)) (
         holds_or db (map (λ part. is_true_formula schema part scope) (conds parts)) rows
-        ∙ (any_holds scope binding rows (λ part. is_true_formula schema part scope) (conds parts) is_true found.0 say.0
-        ∙ (sym (or_is_true found.0) ∙ ap is_true found.2)),
+            ∙ (any_holds scope binding rows (λ part. is_true_formula schema part scope) (conds parts) is_true found.0 say.0
+            ∙ (sym (or_is_true found.0) ∙ ap is_true found.2)),
         holds_and db (map (λ part. is_false_formula schema part scope) (conds parts)) rows
-        ∙ (all_hold scope binding rows (λ part. is_false_formula schema part scope) (conds parts) is_false found.0 say.1
-        ∙ (sym (or_is_false found.0) ∙ ap is_false found.2)),
+            ∙ (all_hold scope binding rows (λ part. is_false_formula schema part scope) (conds parts) is_false found.0 say.1
+            ∙ (sym (or_is_false found.0) ∙ ap is_false found.2)),
       )
 
   -- ---- leaves
@@ -211,8 +201,7 @@ module _ (schema : List Table) (db : Database) where
         let left_stands = term_stands schema db domains scope binding rows whole stands left (λ entry named. names_compare entry op left right span ∙ or_left (term_names entry left) (term_names entry right) named) in
         let right_stands = term_stands schema db domains scope binding rows whole stands right (λ entry named. names_compare entry op left right span ∙ or_right (term_names entry left) (term_names entry right) named) in
         let both = sym (fits_compare schema scope.tables op left right span) ∙ fits in
-        by_layer whole scope rows t _ (translation_compare schema scope op left right span)
-        (
+        by_layer whole scope rows t _ (translation_compare schema scope op left right span) (
           compare_true schema db domains scope binding rows op left right left_stands right_stands stands.variables both ∙ ap is_true is,
           compare_false schema db domains scope binding rows op left right left_stands right_stands stands.variables both ∙ ap is_false is,
         )

@@ -1,26 +1,15 @@
 -- One quantifier for each table of a list: over all lists of one row for each of them.
-use Rattle.std.proofs.Common.{◌≡◌, ◌∙◌, ap, ap₂, sym, refl, ℕ, Bool, true, false, ◌&&◌, ◌||◌, List, [], ◌∷◌, ◌++◌, map, length}
+use Rattle.std.proofs.Common.{◌≡◌, ◌∙◌, ap, sym, refl, ℕ, Bool, true, false, ◌&&◌, ◌||◌, List, [], ◌∷◌, ◌++◌, map, length}
 use Rattle.std.proofs.lemmas.List.{append-nil, append_assoc}
 use Rattle.std.proofs.lemmas.List.Folds.{list_all-map, list_any-append, list_all-append}
 use Rattle.std.specs.List.{list_any, list_all, flat_map}
 use Rattle.lint_core.specs.declared.database.Database.{Database}
-use Rattle.lint_core.specs.Database.{Place, below, places_of, rows_of, row_lists}
+use Rattle.lint_core.specs.Database.{Place, below, rows_of, row_lists}
 use Rattle.sort_formula.specs.declared.formula.Formula.{Formula}
 use Rattle.sort_formula.specs.Holds.{holds}
 use Rattle.sort_formula.specs.Translation.{exist_rows, for_all_rows}
 use Rattle.sort_formula.proofs.Holding.{holds_exists, holds_forall}
-
-pub any_map : {A B : Type 0} (f : A → B) (p : B → Bool) (xs : List A) → list_any p (map f xs) ≡ list_any (λ x. p (f x)) xs
-any_map f p [] = refl
-any_map f p (x ∷ xs) = ap (λ b. p (f x) || b) (any_map f p xs)
-
-pub any_alike : {A : Type 0} (p q : A → Bool) → ((x : A) → q x ≡ p x) → (xs : List A) → list_any q xs ≡ list_any p xs
-any_alike p q alike [] = refl
-any_alike p q alike (x ∷ xs) = ap₂ (λ a b. a || b) (alike x) (any_alike p q alike xs)
-
-pub all_alike : {A : Type 0} (p q : A → Bool) → ((x : A) → q x ≡ p x) → (xs : List A) → list_all q xs ≡ list_all p xs
-all_alike p q alike [] = refl
-all_alike p q alike (x ∷ xs) = ap₂ (λ a b. a && b) (alike x) (all_alike p q alike xs)
+use Rattle.sort_formula.proofs.Lists.{any_map, any_alike, all_alike}
 
 any_flat : {A B : Type 0} (f : A → List B) (p : B → Bool) (xs : List A) → list_any p (flat_map f xs) ≡ list_any (λ x. list_any p (f x)) xs
 any_flat f p [] = refl
@@ -65,9 +54,9 @@ module _ (db : Database) (body : Formula) where
       ∙ (any_map (place_in table) (λ place. holds db (exist_rows own body) (rows ++ place ∷ [])) numbers
       ∙ (any_alike (λ row. list_any (holds_at rows (table ∷ own)) (map (λ inner. row ∷ inner) lists)) (λ row. holds db (exist_rows own body) (rows ++ place_in table row ∷ []))
       (λ row.
-          exist_is own (rows ++ place_in table row ∷ [])
-          ∙ (any_alike (λ inner. holds_at rows (table ∷ own) (row ∷ inner)) (holds_at (rows ++ place_in table row ∷ []) own) (one_more rows table row own) lists
-          ∙ sym (any_map (λ inner. row ∷ inner) (holds_at rows (table ∷ own)) lists)))
+      exist_is own (rows ++ place_in table row ∷ [])
+      ∙ (any_alike (λ inner. holds_at rows (table ∷ own) (row ∷ inner)) (holds_at (rows ++ place_in table row ∷ []) own) (one_more rows table row own) lists
+      ∙ sym (any_map (λ inner. row ∷ inner) (holds_at rows (table ∷ own)) lists)))
       numbers
       ∙ sym (any_flat (λ row. map (λ inner. row ∷ inner) lists) (holds_at rows (table ∷ own)) numbers)))
 
@@ -80,8 +69,8 @@ module _ (db : Database) (body : Formula) where
       ∙ (list_all-map (λ place. holds db (for_all_rows own body) (rows ++ place ∷ [])) (place_in table) numbers
       ∙ (all_alike (λ row. list_all (holds_at rows (table ∷ own)) (map (λ inner. row ∷ inner) lists)) (λ row. holds db (for_all_rows own body) (rows ++ place_in table row ∷ []))
       (λ row.
-          for_all_is own (rows ++ place_in table row ∷ [])
-          ∙ (all_alike (λ inner. holds_at rows (table ∷ own) (row ∷ inner)) (holds_at (rows ++ place_in table row ∷ []) own) (one_more rows table row own) lists
-          ∙ sym (list_all-map (holds_at rows (table ∷ own)) (λ inner. row ∷ inner) lists)))
+      for_all_is own (rows ++ place_in table row ∷ [])
+      ∙ (all_alike (λ inner. holds_at rows (table ∷ own) (row ∷ inner)) (holds_at (rows ++ place_in table row ∷ []) own) (one_more rows table row own) lists
+      ∙ sym (list_all-map (holds_at rows (table ∷ own)) (λ inner. row ∷ inner) lists)))
       numbers
       ∙ sym (all_flat (λ row. map (λ inner. row ∷ inner) lists) (holds_at rows (table ∷ own)) numbers)))

@@ -1,6 +1,6 @@
 -- What a subquery selects, where each inner binding is tested: EXISTS, IN and a scalar subquery over the bindings
 -- that pass.
-use Rattle.std.proofs.Common.{◌≡◌, ◌∙◌, ap, ap₂, sym, refl, ℕ, suc, Bool, true, false, not, ◌&&◌, ◌||◌, List, [], ◌∷◌, ◌++◌, map, length, if◌then◌else◌}
+use Rattle.std.proofs.Common.{◌≡◌, ◌∙◌, ap, ap₂, refl, ℕ, suc, Bool, true, false, not, ◌&&◌, ◌||◌, List, [], ◌∷◌, ◌++◌, map, length, if◌then◌else◌}
 use Rattle.std.proofs.lemmas.List.Folds.{list_all-map}
 use Rattle.std.specs.Prelude.{Ok, Err}
 use Rattle.std.specs.List.{AllByRecursion, list_any, list_all, flat_map}
@@ -15,8 +15,9 @@ use Rattle.lint_core.specs.declared.database.Value.TheVariants.{Null, Int, Text}
 use Rattle.lint_core.specs.Comparison.{compare}
 use Rattle.lint_core.specs.Condition.{Inner, selected, exists_truth, in_truth, scalar_value}
 use Rattle.lint_core.specs.Database.{below, rows_of, row_lists}
-use Rattle.lint_core.specs.Evaluation.{Evaluated, and_then, map_ok}
+use Rattle.lint_core.specs.Evaluation.{and_then, map_ok}
 use Rattle.lint_core.specs.Truth.{is_true, is_false, greatest, or_of}
+use Rattle.sort_formula.proofs.Lists.{any_map}
 
 -- ---- lists
 
@@ -149,10 +150,6 @@ or_is_false (t ∷ truths) = greatest_false t (or_of truths) ∙ ap (λ b. is_fa
 
 -- ---- IN and a scalar subquery
 
-any_map : {A B : Type 0} (f : A → B) (p : B → Bool) (xs : List A) → list_any p (map f xs) ≡ list_any (λ x. p (f x)) xs
-any_map f p [] = refl
-any_map f p (x ∷ xs) = ap (λ b. p (f x) || b) (any_map f p xs)
-
 with_null : (op : Op) (a : Value) → compare op a Null ≡ Unknown
 with_null op Null = refl
 with_null op (Int a) = refl
@@ -183,7 +180,7 @@ module _ {A : Type 0} (v : A → Value) (p : A → Bool) (left : Value) where
         ap passes null ∙ (ap test (with_null op left) ∙ decides)
     one_value (x ∷ []) value known =
         let here : value ≡ v x = cc in
-        ap passes here ∙ elim (passes (v x)) as (λ b. b ≡ (b || false)) [ | true ↦ refl | false ↦ refl ]
+        ap passes here ∙ elim (passes (v x)) as (λ b. b ≡ (b || false)) [ true ↦ refl | false ↦ refl ]
     one_value (x ∷ y ∷ items) value known = cc
 
     pub scalar_is : (xs : List A) (value : Value) → scalar_value place (map v (passing p xs)) ≡ Ok value → passes value ≡ list_any (λ x. p x && passes (v x)) xs

@@ -1,12 +1,11 @@
 -- EXISTS, IN and a scalar subquery: their formulas say their truths, where those of the block's condition do.
 use Rattle.std.proofs.Common.{◌≡◌, ◌∙◌, ap, ap₂, subst, sym, refl, ℕ, suc, Bool, true, false, not, ◌&&◌, ◌||◌, List, [], ◌∷◌, ◌++◌, map, length}
 use Rattle.std.proofs.lemmas.Bool.{or_left, or_right}
-use Rattle.std.proofs.lemmas.List.{map-append}
 use Rattle.std.proofs.lemmas.Option.{slice_get-map}
 use Rattle.std.proofs.lemmas.Simd.{map-map}
 use Rattle.std.specs.Prelude.{Ok, Err, Option, Some, None, slice_get, option_and_then, is_some, nat_le, nat_lt}
 use Rattle.std.specs.Option.{option_map}
-use Rattle.std.specs.List.{AllByRecursion, list_any, list_all}
+use Rattle.std.specs.List.{list_any, list_all}
 use Rattle.lint_base.specs.declared.place.Span.{Span}
 use Rattle.lint_tables.specs.declared.op.Op.{Op}
 use Rattle.lint_tables.specs.declared.op.Op.TheVariants.{Eq}
@@ -17,13 +16,12 @@ use Rattle.lint_core.specs.declared.condition.Entry.{Entry}
 use Rattle.lint_core.specs.declared.condition.Term.{Term}
 use Rattle.lint_core.specs.declared.database.Database.{Database}
 use Rattle.lint_core.specs.declared.database.Truth.{Truth}
-use Rattle.lint_core.specs.declared.database.Truth.TheVariants.{False, Unknown, True}
 use Rattle.lint_core.specs.declared.database.Value.{Value}
 use Rattle.lint_core.specs.declared.schema.Table.{Table}
 use Rattle.lint_core.specs.Comparison.{compare}
-use Rattle.lint_core.specs.Condition.{Inner, BlockMeaning, truth, at_entry, place_of, term_value, selected, exists_truth, in_truth, items_at, scalar_value}
+use Rattle.lint_core.specs.Condition.{Inner, BlockMeaning, truth, at_entry, term_value, selected, exists_truth, in_truth, items_at, scalar_value}
 use Rattle.lint_core.specs.Database.{Place, row_lists}
-use Rattle.lint_core.specs.Evaluation.{Evaluated, and_then, map_ok}
+use Rattle.lint_core.specs.Evaluation.{and_then, map_ok}
 use Rattle.lint_core.specs.Fits.{cond_fits, tables_of, term_kind, is_plain}
 use Rattle.lint_core.specs.Kind.{compares_both}
 use Rattle.lint_core.specs.Meets.{is_of_domains}
@@ -35,18 +33,18 @@ use Rattle.sort_formula.specs.declared.formula.Formula.TheVariants as f
 use Rattle.sort_formula.specs.Holds.{holds}
 use Rattle.sort_formula.specs.Negated.{negated}
 use Rattle.sort_formula.specs.Rows.{tables_of_rows}
-use Rattle.sort_formula.specs.Sentences.{formula_fits}
 use Rattle.sort_formula.specs.Sides.{Scope, compare_formula, compare_false_formula}
 use Rattle.sort_formula.specs.Standpoint.{IsRowOf, StandsFor}
-use Rattle.sort_formula.specs.Translation.{translation, inside, is_true_formula, exist_rows, for_all_rows, exists_both, in_both, scalar_both, swapped_if}
+use Rattle.sort_formula.specs.Translation.{inside, is_true_formula, exist_rows, for_all_rows, exists_both, in_both, scalar_both, swapped_if}
 use Rattle.sort_formula.proofs.Complements.{complements}
 use Rattle.sort_formula.proofs.Holding.{holds_and, holds_or}
+use Rattle.sort_formula.proofs.Lists.{both_left, both_right}
 use Rattle.truth_formula.proofs.Inside.{term_stands, part_stands, inside_stands, same_entries, outer_value, outer_kind, both_left_kind}
 use Rattle.truth_formula.proofs.Layers.{block_fit, block_parts, translation_exists, translation_in, translation_scalar, fits_exists, fits_in, fits_scalar, names_exists, names_in, names_scalar}
 use Rattle.truth_formula.proofs.Leaves.{compare_true, compare_false}
-use Rattle.truth_formula.proofs.Parts.{both_left, both_right, made, swapped, by_layer}
+use Rattle.truth_formula.proofs.Parts.{made, swapped, by_layer}
 use Rattle.truth_formula.proofs.Quantified.{holds_at, places_in, exist_is, for_all_is}
-use Rattle.truth_formula.proofs.Says.{FormulasFit, BothSay, Says}
+use Rattle.truth_formula.proofs.Spoken.{FormulasFit, BothSay, Says}
 use Rattle.truth_formula.proofs.Selecting.{passing, every_then, any_same, all_same, one_each, selected_passing, some_is_true, some_is_false, in_is_true, in_is_false, scalar_is}
 
 -- ---- the tables of the rows
@@ -84,7 +82,7 @@ or_both true b = refl
 or_both false true = refl
 or_both false false = refl
 
-module _ (schema : List Table) (db : Database) (domains : is_of_domains schema db ≡ true) (fitting : FormulasFit schema db) where
+module _ (schema : List Table) (db : Database) (domains : is_of_domains schema db ≡ true) (fitting : FormulasFit schema) where
   -- the negation holds exactly where the condition's formula does not
   negation_says : (cond : Cond) (scope : Scope) → cond_fits schema scope.tables cond ≡ true → (binding : List (List ℕ)) (rows : List Place) → StandsFor db scope binding rows cond →
       holds db (negated (is_true_formula schema cond scope)) rows ≡ not (holds db (is_true_formula schema cond scope) rows)
@@ -147,13 +145,12 @@ module _ (schema : List Table) (db : Database) (domains : is_of_domains schema d
       exists_says : (t : Truth) → map_ok exists_truth (selected (map inner lists)) ≡ Ok t → BothSay schema db (exists_both schema (block_parts schema block) scope) rows t
       exists_says t known =
           let found = made exists_truth (selected (map inner lists)) t known in
-          let is : exists_truth (map inner (passing passes lists)) ≡ t = ap exists_truth (sym (selects found.0 found.1)) ∙ found.2 in
-          (
+          let is : exists_truth (map inner (passing passes lists)) ≡ t = ap exists_truth (sym (selects found.0 found.1)) ∙ found.2 in (
             exist_is db formula own rows ∙ (sym (some_is_true inner passes lists) ∙ ap is_true is),
             for_all_is db (negated formula) own rows
-            ∙ (all_same (λ row_list. not (passes row_list)) (holds_at db (negated formula) rows own) lists
-            (every_then (λ (row_list : List ℕ). length row_list ≡ length own) (λ row_list. holds_at db (negated formula) rows own row_list ≡ not (passes row_list)) not_there lists (one_each db own))
-            ∙ (sym (some_is_false inner passes lists) ∙ ap is_false is)),
+                ∙ (all_same (λ row_list. not (passes row_list)) (holds_at db (negated formula) rows own) lists
+                (every_then (λ (row_list : List ℕ). length row_list ≡ length own) (λ row_list. holds_at db (negated formula) rows own row_list ≡ not (passes row_list)) not_there lists (one_each db own))
+                ∙ (sym (some_is_false inner passes lists) ∙ ap is_false is)),
           )
 
     -- ---- a comparison with what is selected
@@ -209,8 +206,8 @@ module _ (schema : List Table) (db : Database) (domains : is_of_domains schema d
           (every_then (λ (row_list : List ℕ). length row_list ≡ length own)
           (λ row_list. holds_at db (f.And (formula ∷ g ∷ [])) rows own row_list ≡ (passes row_list && test (compare op left_value (item_value row_list))))
           (λ row_list same.
-              holds_and db (formula ∷ g ∷ []) (rows ++ places_in own row_list)
-              ∙ (and_both (passes row_list) (holds_at db g rows own row_list) ∙ ap (λ b. passes row_list && b) (says row_list same)))
+          holds_and db (formula ∷ g ∷ []) (rows ++ places_in own row_list)
+          ∙ (and_both (passes row_list) (holds_at db g rows own row_list) ∙ ap (λ b. passes row_list && b) (says row_list same)))
           lists (one_each db own))
 
       -- each row is none of the subquery's or differs
@@ -221,9 +218,9 @@ module _ (schema : List Table) (db : Database) (domains : is_of_domains schema d
           (every_then (λ (row_list : List ℕ). length row_list ≡ length own)
           (λ row_list. holds_at db (f.Or (negated formula ∷ false_there ∷ [])) rows own row_list ≡ (not (passes row_list) || is_false (compare op left_value (item_value row_list))))
           (λ row_list same.
-              holds_or db (negated formula ∷ false_there ∷ []) (rows ++ places_in own row_list)
-              ∙ (or_both (holds_at db (negated formula) rows own row_list) (holds_at db false_there rows own row_list)
-              ∙ ap₂ (λ a b. a || b) (not_there block_stands row_list same) (false_says row_list same)))
+          holds_or db (negated formula ∷ false_there ∷ []) (rows ++ places_in own row_list)
+          ∙ (or_both (holds_at db (negated formula) rows own row_list) (holds_at db false_there rows own row_list)
+          ∙ ap₂ (λ a b. a || b) (not_there block_stands row_list same) (false_says row_list same)))
           lists (one_each db own))
 
       items_are : (kept : List Inner) → selected (map inner lists) ≡ Ok kept → items_at db item kept ≡ map item_value (passing passes lists)
@@ -239,12 +236,11 @@ module _ (schema : List Table) (db : Database) (domains : is_of_domains schema d
             | Err place ↦ λ is known. cc
             | Ok kept ↦ λ is known.
                 let found = made (compare op left_value) (scalar_value place (items_at db item kept)) t known in
-                let one = sym (ap (scalar_value place) (items_are kept is)) ∙ found.1 in
-                (
+                let one = sym (ap (scalar_value place) (items_are kept is)) ∙ found.1 in (
                   some_says true_there is_true true_says
-                  ∙ (sym (scalar_is item_value passes left_value op is_true refl place lists found.0 one) ∙ ap is_true found.2),
+                      ∙ (sym (scalar_is item_value passes left_value op is_true refl place lists found.0 one) ∙ ap is_true found.2),
                   some_says false_there is_false false_says
-                  ∙ (sym (scalar_is item_value passes left_value op is_false refl place lists found.0 one) ∙ ap is_false found.2),
+                      ∙ (sym (scalar_is item_value passes left_value op is_false refl place lists found.0 one) ∙ ap is_false found.2),
                 )
           ]
           refl known
@@ -261,12 +257,11 @@ module _ (schema : List Table) (db : Database) (domains : is_of_domains schema d
           let found = made (λ inners. negated_if negated (in_truth value (items_at db item inners))) (selected (map inner lists)) t known in
           let truth_there = in_truth value (map items (passing passes lists)) in
           let is : negated_if negated truth_there ≡ t =
-              ap (λ values. negated_if negated (in_truth value values)) (sym (items_are cond stands part_named Eq left item left_named item_named kinds found.0 found.1)) ∙ found.2 in
+          ap (λ values. negated_if negated (in_truth value values)) (sym (items_are cond stands part_named Eq left item left_named item_named kinds found.0 found.1)) ∙ found.2 in
           subst (BothSay schema db (swapped_if negated (in_both schema left (block_parts schema block) item scope)) rows) is
-          (swapped schema db negated (in_both schema left (block_parts schema block) item scope) rows truth_there
-          (
+          (swapped schema db negated (in_both schema left (block_parts schema block) item scope) rows truth_there (
             some_says cond stands part_named Eq left item left_named item_named kinds _ is_true (true_says cond stands part_named Eq left item left_named item_named kinds)
-            ∙ sym (in_is_true items passes value lists),
+                ∙ sym (in_is_true items passes value lists),
             none_says cond stands part_named Eq left item left_named item_named kinds ∙ sym (in_is_false items passes value lists),
           ))
 
@@ -276,8 +271,8 @@ module _ (schema : List Table) (db : Database) (domains : is_of_domains schema d
   of_exists block span says scope fits binding rows stands t known =
       let whole = c.Exists block span in
       let is =
-          ap (λ (m : BlockMeaning). map_ok exists_truth (selected (m.bindings scope.tables binding))) (sym (block_truth_is db block))
-          ∙ (sym (truth_exists db block span scope.tables binding) ∙ known) in
+      ap (λ (m : BlockMeaning). map_ok exists_truth (selected (m.bindings scope.tables binding))) (sym (block_truth_is db block))
+      ∙ (sym (truth_exists db block span scope.tables binding) ∙ known) in
       by_layer schema db whole scope rows t _ (translation_exists schema scope block span)
       (exists_says block says scope (sym (fits_exists schema scope.tables block span) ∙ fits) binding rows
       (part_stands db scope binding rows whole block.cond (λ entry named. names_exists entry block span ∙ named) stands) t is)
@@ -286,13 +281,13 @@ module _ (schema : List Table) (db : Database) (domains : is_of_domains schema d
   of_in left block item negated span says scope fits binding rows stands t known =
       let whole = c.In left block item negated span in
       let is =
-          ap (λ (m : BlockMeaning). map_ok (λ inners. negated_if negated (in_truth (term_value db scope.tables binding left) (items_at db item inners))) (selected (m.bindings scope.tables binding))) (sym (block_truth_is db block))
-          ∙ (sym (truth_in db left block item negated span scope.tables binding) ∙ known) in
+      ap (λ (m : BlockMeaning). map_ok (λ inners. negated_if negated (in_truth (term_value db scope.tables binding left) (items_at db item inners))) (selected (m.bindings scope.tables binding))) (sym (block_truth_is db block))
+      ∙ (sym (truth_in db left block item negated span scope.tables binding) ∙ known) in
       let all = sym (fits_in schema scope.tables left block item negated span) ∙ fits in
       let kinds = compares_both Eq (term_kind schema scope.tables left) (term_kind schema (scope.tables ++ tables_of block.entries ∷ []) item) in
       let here = (block_fit schema block).fits scope.tables in
       let terms : (entry : ℕ) → (term_names entry left || term_names entry item) ≡ true → names entry whole ≡ true =
-          λ entry named. names_in entry left block item negated span ∙ or_left (term_names entry left || term_names entry item) (names entry block.cond) named in
+      λ entry named. names_in entry left block item negated span ∙ or_left (term_names entry left || term_names entry item) (names entry block.cond) named in
       by_layer schema db whole scope rows t _ (translation_in schema scope left block item negated span)
       (in_says block says scope (both_left here (is_plain item) (both_left (here && is_plain item) kinds all)) binding rows whole stands
       (λ entry named. names_in entry left block item negated span ∙ or_right (term_names entry left || term_names entry item) (names entry block.cond) named)
@@ -305,13 +300,13 @@ module _ (schema : List Table) (db : Database) (domains : is_of_domains schema d
   of_scalar op left block item span says scope fits binding rows stands t known =
       let whole = c.Scalar op left block item span in
       let is =
-          ap (λ (m : BlockMeaning). and_then (λ inners. map_ok (compare op (term_value db scope.tables binding left)) (scalar_value m.place (items_at db item inners))) (selected (m.bindings scope.tables binding))) (sym (block_truth_is db block))
-          ∙ (sym (truth_scalar db op left block item span scope.tables binding) ∙ known) in
+      ap (λ (m : BlockMeaning). and_then (λ inners. map_ok (compare op (term_value db scope.tables binding left)) (scalar_value m.place (items_at db item inners))) (selected (m.bindings scope.tables binding))) (sym (block_truth_is db block))
+      ∙ (sym (truth_scalar db op left block item span scope.tables binding) ∙ known) in
       let all = sym (fits_scalar schema scope.tables op left block item span) ∙ fits in
       let kinds = compares_both op (term_kind schema scope.tables left) (term_kind schema (scope.tables ++ tables_of block.entries ∷ []) item) in
       let here = (block_fit schema block).fits scope.tables in
       let terms : (entry : ℕ) → (term_names entry left || term_names entry item) ≡ true → names entry whole ≡ true =
-          λ entry named. names_scalar entry op left block item span ∙ or_left (term_names entry left || term_names entry item) (names entry block.cond) named in
+      λ entry named. names_scalar entry op left block item span ∙ or_left (term_names entry left || term_names entry item) (names entry block.cond) named in
       by_layer schema db whole scope rows t _ (translation_scalar schema scope op left block item span)
       (scalar_says block says scope (both_left here (is_plain item) (both_left (here && is_plain item) kinds all)) binding rows whole stands
       (λ entry named. names_scalar entry op left block item span ∙ or_right (term_names entry left || term_names entry item) (names entry block.cond) named)

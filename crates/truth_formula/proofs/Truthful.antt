@@ -1,5 +1,5 @@
 -- The formulas of every condition say its truths: by induction over conditions and blocks.
-use Rattle.std.proofs.Common.{◌≡◌, ◌∙◌, ap, subst, sym, refl, true, List, map}
+use Rattle.std.proofs.Common.{◌≡◌, subst, sym, true, List}
 use Rattle.lint_core.specs.declared.condition.Block.{Block, roll-Block, map-Block}
 use Rattle.lint_core.specs.declared.condition.Cond.{Cond, ind-Cond, roll-Cond, map-Cond}
 use Rattle.lint_core.specs.declared.condition.Cond.TheVariants as c
@@ -8,10 +8,10 @@ use Rattle.lint_core.specs.declared.database.Database.{Database}
 use Rattle.lint_core.specs.declared.schema.Table.{Table}
 use Rattle.lint_core.specs.Meets.{is_of_domains}
 use Rattle.truth_formula.proofs.Parts.{conds, of_true, of_false, of_and, of_or, of_not, of_compare, of_is_null}
-use Rattle.truth_formula.proofs.Says.{FormulasFit, Says}
+use Rattle.truth_formula.proofs.Spoken.{FormulasFit, Says}
 use Rattle.truth_formula.proofs.Subqueries.{of_exists, of_in, of_scalar}
 
-module _ (schema : List Table) (db : Database) (domains : is_of_domains schema db ≡ true) (fitting : FormulasFit schema db) where
+module _ (schema : List Table) (db : Database) (domains : is_of_domains schema db ≡ true) (fitting : FormulasFit schema) where
   abbrev SaysHere : Cond → Type 0
   SaysHere = Says schema db
 
