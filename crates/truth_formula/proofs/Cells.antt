@@ -55,10 +55,10 @@ no_null_column (c ∷ columns) zero at = no_null_domain c.domain at
     no_null_domain (domain.Text length) at = cc
 no_null_column (c ∷ columns) (suc i) at = no_null_column columns i at
 
-abbrev table_kind : Option Table → ℕ → Option Kind
+abbrev pub table_kind : Option Table → ℕ → Option Kind
 table_kind table column = option_and_then (λ (t : Table). column_kind t column) table
 
-no_null_kind : (table : Option Table) (column : ℕ) → table_kind table column ≡ Some kind.Null → ⊥
+pub no_null_kind : (table : Option Table) (column : ℕ) → table_kind table column ≡ Some kind.Null → ⊥
 no_null_kind None column at = cc
 no_null_kind (Some table) column at = no_null_column table.columns column at
 

@@ -1,3 +1,6 @@
 pub mod Comparing
 pub mod Cells
 pub mod Leaves
+pub mod Outside
+pub mod Fitting
+pub mod Fits
