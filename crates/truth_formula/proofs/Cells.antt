@@ -1,20 +1,20 @@
 -- The value of a term is that of its side with what is added to it, where the variables have the rows of the binding.
-use Rattle.std.proofs.Common.{◌≡◌, ◌∙◌, sym, ap, refl, subst, ℕ, zero, suc, ℤ, pos, ◌+ℤ◌, Bool, true, false, not, List, [], ◌∷◌, length, map, if◌then◌else◌, arith}
+use Rattle.std.proofs.Common.{◌≡◌, ◌∙◌, sym, ap, refl, subst, ℕ, zero, suc, ℤ, pos, ◌+ℤ◌, Bool, true, false, List, [], ◌∷◌, length, map, if◌then◌else◌, arith}
 use Rattle.std.proofs.lemmas.Int.{ints}
-use Rattle.std.specs.Prelude.{Option, Some, None, slice_get, option_and_then, unwrap_or, is_some}
+use Rattle.std.specs.Prelude.{Option, Some, None, slice_get, option_and_then, unwrap_or}
 use Rattle.std.specs.Ordering.{int_eq}
 use Rattle.lint_core.specs.declared.condition.Term.{Term}
 use Rattle.lint_core.specs.declared.condition.Term.TheVariants as term
 use Rattle.lint_core.specs.declared.database.Database.{Database}
 use Rattle.lint_core.specs.declared.database.Value.{Value}
-use Rattle.lint_core.specs.declared.database.Value.TheVariants.{Null, Int, Text}
+use Rattle.lint_core.specs.declared.database.Value.TheVariants.{Null, Int}
 use Rattle.lint_core.specs.declared.schema.Column.{Column}
 use Rattle.lint_core.specs.declared.schema.Domain.{Domain}
 use Rattle.lint_core.specs.declared.schema.Domain.TheVariants as domain
 use Rattle.lint_core.specs.declared.schema.Kind.{Kind}
 use Rattle.lint_core.specs.declared.schema.Kind.TheVariants as kind
 use Rattle.lint_core.specs.declared.schema.Table.{Table}
-use Rattle.lint_core.specs.Comparison.{plus, is_null}
+use Rattle.lint_core.specs.Comparison.{plus}
 use Rattle.lint_core.specs.Condition.{at_entry, place_of, cell_value, term_value}
 use Rattle.lint_core.specs.Database.{Place, value_at}
 use Rattle.lint_core.specs.Fits.{cell_kind, term_kind}
@@ -55,10 +55,10 @@ no_null_column (c ∷ columns) zero at = no_null_domain c.domain at
     no_null_domain (domain.Text length) at = cc
 no_null_column (c ∷ columns) (suc i) at = no_null_column columns i at
 
-abbrev table_kind : Option Table → ℕ → Option Kind
+abbrev pub table_kind : Option Table → ℕ → Option Kind
 table_kind table column = option_and_then (λ (t : Table). column_kind t column) table
 
-no_null_kind : (table : Option Table) (column : ℕ) → table_kind table column ≡ Some kind.Null → ⊥
+pub no_null_kind : (table : Option Table) (column : ℕ) → table_kind table column ≡ Some kind.Null → ⊥
 no_null_kind None column at = cc
 no_null_kind (Some table) column at = no_null_column table.columns column at
 

@@ -1,31 +1,28 @@
 -- A step into a block keeps where a condition stands: the inner scope's variables have the rows of the inner binding.
-use Rattle.std.proofs.Common.{◌≡◌, ◌∙◌, ◌+◌, ◌<◌, ◌≤◌, sym, ap, ap₂, refl, subst, ℕ, zero, suc, true, nat_eq, List, [], ◌∷◌, ◌++◌, length, map, inl, inr, arith}
+use Rattle.std.proofs.Common.{◌≡◌, ◌∙◌, ◌+◌, ◌<◌, ◌≤◌, sym, ap, ap₂, refl, ℕ, zero, suc, true, List, [], ◌∷◌, ◌++◌, length, map, inl, inr, arith}
 use Rattle.std.proofs.lemmas.Bool.{cases_lt}
-use Rattle.std.proofs.lemmas.Bool.Decides.{nat_tests}
-use Rattle.std.proofs.lemmas.List.{length-append, map-append}
-use Rattle.std.proofs.lemmas.Option.{slice_get_past, slice_get-map}
+use Rattle.std.proofs.lemmas.List.{length-append}
+use Rattle.std.proofs.lemmas.Option.{slice_get_past}
 use Rattle.std.specs.Prelude.{Option, Some, None, slice_get, option_and_then, is_some, unwrap_or}
-use Rattle.std.specs.Option.{option_map}
-use Rattle.lint_tables.specs.declared.op.Op.{Op}
 use Rattle.lint_core.specs.declared.condition.Cond.{Cond}
 use Rattle.lint_core.specs.declared.condition.Term.{Term}
 use Rattle.lint_core.specs.declared.condition.Term.TheVariants as term
 use Rattle.lint_core.specs.declared.database.Database.{Database}
 use Rattle.lint_core.specs.declared.database.Value.TheVariants.{Null}
-use Rattle.lint_core.specs.declared.schema.Kind.{Kind}
 use Rattle.lint_core.specs.declared.schema.Table.{Table}
 use Rattle.lint_core.specs.Comparison.{plus}
 use Rattle.lint_core.specs.Condition.{at_entry, place_of, term_value}
-use Rattle.lint_core.specs.Database.{Place, below, value_at}
+use Rattle.lint_core.specs.Database.{Place, value_at}
 use Rattle.lint_core.specs.Fits.{cell_kind, term_kind}
-use Rattle.lint_core.specs.Kind.{compares_both}
 use Rattle.lint_core.specs.Meets.{is_of_domains}
 use Rattle.lint_core.specs.Naming.{names, term_names}
 use Rattle.sort_formula.specs.Sides.{Scope, from_number}
 use Rattle.sort_formula.specs.Standpoint.{IsRowOf, StandsFor}
 use Rattle.sort_formula.specs.Translation.{inside}
 use Rattle.sort_formula.proofs.Lists.{slice_get_front, slice_get_past as get_after, slice_get_within, slice_get_last}
+use Rattle.truth_formula.proofs.Fits.{same_number}
 use Rattle.truth_formula.proofs.Leaves.{TermStands}
+use Rattle.truth_formula.proofs.Outside.{variable_at, variable_past, length_from, lengths_inside}
 use Rattle.truth_formula.proofs.Quantified.{place_in, places_in}
 
 -- ---- what stands at a level and an entry
@@ -96,57 +93,24 @@ place_at (table ∷ own) [] entry = elim (slice_get (table ∷ own) entry) as (�
 place_at (table ∷ own) (row ∷ inner) zero = refl
 place_at (table ∷ own) (row ∷ inner) (suc entry) = place_at own inner entry
 
-length_below : (n : ℕ) → length (below n) ≡ n
-length_below zero = refl
-length_below (suc n) = rw (length-append (below n) (n ∷ []), length_below n) (omega arith)
-
-below_at : (n k : ℕ) → k < n → slice_get (below n) k ≡ Some k
-below_at zero k low = absurd (omega arith)
-below_at (suc n) k low =
-    elim (cases_lt k n) [
-      | inl less ↦ slice_get_front (below n) (n ∷ []) k k (below_at n k less)
-      | inr more ↦
-          let same : k ≡ n = omega arith in
-          let last : slice_get (below (suc n)) n ≡ Some n = ap (slice_get (below (suc n))) (sym (length_below n)) ∙ slice_get_last (below n) n in
-          subst (λ k. slice_get (below (suc n)) k ≡ Some k) (sym same) last
-    ]
-
 own_row : (rows : List Place) (own inner : List ℕ) (entry : ℕ) →
     option_and_then (slice_get (rows ++ places_in own inner)) (slice_get (from_number (length rows) (length own)) entry) ≡ place_for (slice_get own entry) (slice_get inner entry)
 own_row rows own inner entry =
-    ap (option_and_then (slice_get (rows ++ places_in own inner))) (slice_get-map (λ k. length rows + k) (below (length own)) entry)
-    ∙ elim (cases_lt entry (length own)) [
+    elim (cases_lt entry (length own)) [
       | inl low ↦
-          ap (λ k. option_and_then (slice_get (rows ++ places_in own inner)) (option_map (λ k. length rows + k) k)) (below_at (length own) entry low)
+          ap (option_and_then (slice_get (rows ++ places_in own inner))) (variable_at (length rows) (length own) entry low)
           ∙ (get_after rows (places_in own inner) entry ∙ place_at own inner entry)
       | inr high ↦
-          let long : length (below (length own)) ≤ entry = rw (length_below (length own)) high in
-          ap (λ k. option_and_then (slice_get (rows ++ places_in own inner)) (option_map (λ k. length rows + k) k)) (slice_get_past (below (length own)) entry long)
+          ap (option_and_then (slice_get (rows ++ places_in own inner))) (variable_past (length rows) (length own) entry high)
           ∙ sym (ap (λ table. place_for table (slice_get inner entry)) (slice_get_past own entry high))
     ]
-
-length_from : (first count : ℕ) → length (from_number first count) ≡ count
-length_from first count = length-map' (λ k. first + k) (below count) ∙ length_below count
-  where
-    length-map' : (f : ℕ → ℕ) (xs : List ℕ) → length (map f xs) ≡ length xs
-    length-map' f [] = refl
-    length-map' f (x ∷ xs) = ap suc (length-map' f xs)
 
 length_places : (own inner : List ℕ) → length inner ≡ length own → length (places_in own inner) ≡ length own
 length_places [] inner same = refl
 length_places (table ∷ own) [] same = same
 length_places (table ∷ own) (row ∷ inner) same = ap suc (length_places own inner (omega (arith, same)))
 
--- one level more on both sides
-one_level : (xs ys : List (List ℕ)) (x y : List ℕ) → map length xs ≡ map length ys → length x ≡ length y → map length (xs ++ x ∷ []) ≡ map length (ys ++ y ∷ [])
-one_level xs ys x y same last =
-    map-append length xs (x ∷ [])
-    ∙ (ap₂ (λ ls l. ls ++ l ∷ []) same last ∙ sym (map-append length ys (y ∷ [])))
-
 -- ---- where a term stands
-
-same_number : (n : ℕ) → nat_eq n n ≡ true
-same_number n = grind (arith, nat_tests)
 
 module _ (schema : List Table) (db : Database) (domains : is_of_domains schema db ≡ true) (scope : Scope) (binding : List (List ℕ)) (rows : List Place) where
   pub term_stands : (cond : Cond) → StandsFor db scope binding rows cond → (t : Term) → ((entry : ℕ) → term_names entry t ≡ true → names entry cond ≡ true) → TermStands schema db domains scope binding rows t
@@ -207,17 +171,13 @@ pub inside_stands : (db : Database) (scope : Scope) (binding : List (List ℕ)) 
     (own inner : List ℕ) → length inner ≡ length own → StandsFor db (inside scope own) (binding ++ inner ∷ []) (rows ++ places_in own inner) cond
 inside_stands db scope binding rows cond stands own inner same = record {
   depth = length-append rows (places_in own inner) ∙ ap₂ (λ a b. a + b) stands.depth (length_places own inner same);
-  variables = one_level scope.levels scope.tables (from_number scope.depth (length own)) own stands.variables (length_from scope.depth (length own));
-  entries = one_level binding scope.tables inner own stands.entries same;
+  variables = lengths_inside scope.levels scope.tables (from_number scope.depth (length own)) own stands.variables (length_from scope.depth (length own));
+  entries = lengths_inside binding scope.tables inner own stands.entries same;
   main = λ entry named. inside_row db scope binding rows own inner stands.depth stands.variables stands.entries 0 entry (λ low. stands.main entry named);
   inner = λ level entry. inside_row db scope binding rows own inner stands.depth stands.variables stands.entries (suc level) entry (λ low. stands.inner level entry);
 }
 
 -- ---- a term of an outer level
-
-pub both_left_kind : (op : Op) (a b : Option Kind) → compares_both op a b ≡ true → is_some a ≡ true
-both_left_kind op None b both = both
-both_left_kind op (Some a) b both = refl
 
 module _ (schema : List Table) (db : Database) (tables binding : List (List ℕ)) (own inner : List ℕ) (entries : map length binding ≡ map length tables) where
   low_level : (level entry column : ℕ) (added : _) → is_some (cell_kind schema (at_entry tables level entry) column added) ≡ true → level < length tables
@@ -239,10 +199,3 @@ module _ (schema : List Table) (db : Database) (tables binding : List (List ℕ)
   outer_value (term.Number value unit) is = refl
   outer_value (term.Text text) is = refl
   outer_value term.Null is = refl
-
-  pub outer_kind : (t : Term) → is_some (term_kind schema tables t) ≡ true → term_kind schema (tables ++ own ∷ []) t ≡ term_kind schema tables t
-  outer_kind (term.Cell level entry column added) is =
-      ap (λ table. cell_kind schema table column added) (at_outer tables own level entry (low_level level entry column added is))
-  outer_kind (term.Number value unit) is = refl
-  outer_kind (term.Text text) is = refl
-  outer_kind term.Null is = refl

@@ -1,6 +1,9 @@
 pub mod Comparing
 pub mod Cells
 pub mod Leaves
+pub mod Outside
+pub mod Fitting
+pub mod Fits
 mod Quantified
 mod Layers
 mod Inside

@@ -1,6 +1,7 @@
 -- EXISTS, IN and a scalar subquery: their formulas say their truths, where those of the block's condition do.
 use Rattle.std.proofs.Common.{◌≡◌, ◌∙◌, ap, ap₂, subst, sym, refl, ℕ, suc, Bool, true, false, not, ◌&&◌, ◌||◌, List, [], ◌∷◌, ◌++◌, map, length}
 use Rattle.std.proofs.lemmas.Bool.{or_left, or_right}
+use Rattle.std.proofs.lemmas.List.{length-map}
 use Rattle.std.proofs.lemmas.Option.{slice_get-map}
 use Rattle.std.proofs.lemmas.Simd.{map-map}
 use Rattle.std.specs.Prelude.{Ok, Err, Option, Some, None, slice_get, option_and_then, is_some, nat_le, nat_lt}
@@ -39,12 +40,13 @@ use Rattle.sort_formula.specs.Translation.{inside, is_true_formula, exist_rows, 
 use Rattle.sort_formula.proofs.Complements.{complements}
 use Rattle.sort_formula.proofs.Holding.{holds_and, holds_or}
 use Rattle.sort_formula.proofs.Lists.{both_left, both_right}
-use Rattle.truth_formula.proofs.Inside.{term_stands, part_stands, inside_stands, same_entries, outer_value, outer_kind, both_left_kind}
+use Rattle.truth_formula.proofs.Inside.{term_stands, part_stands, inside_stands, same_entries, outer_value}
+use Rattle.truth_formula.proofs.Fits.{first_there, compares_inside, cond_fits as condition_fits}
 use Rattle.truth_formula.proofs.Layers.{block_fit, block_parts, translation_exists, translation_in, translation_scalar, fits_exists, fits_in, fits_scalar, names_exists, names_in, names_scalar}
 use Rattle.truth_formula.proofs.Leaves.{compare_true, compare_false}
 use Rattle.truth_formula.proofs.Parts.{made, swapped, by_layer}
 use Rattle.truth_formula.proofs.Quantified.{holds_at, places_in, exist_is, for_all_is}
-use Rattle.truth_formula.proofs.Spoken.{FormulasFit, BothSay, Says}
+use Rattle.truth_formula.proofs.Spoken.{BothSay, Says}
 use Rattle.truth_formula.proofs.Selecting.{passing, every_then, any_same, all_same, one_each, selected_passing, some_is_true, some_is_false, in_is_true, in_is_false, scalar_is}
 
 -- ---- the tables of the rows
@@ -59,10 +61,6 @@ table_of_place levels (Some table) (Some row) rows there at = ap (option_map (λ
 table_of_variable : (variable : Option ℕ) (rows : List Place) → option_and_then (slice_get (tables_of_rows rows)) variable ≡ option_map (λ (place : Place). place.table) (option_and_then (slice_get rows) variable)
 table_of_variable None rows = refl
 table_of_variable (Some variable) rows = slice_get-map (λ (place : Place). place.table) rows variable
-
-length_map : {A B : Type 0} (g : A → B) (xs : List A) → length (map g xs) ≡ length xs
-length_map g [] = refl
-length_map g (x ∷ xs) = ap suc (length_map g xs)
 
 entry_table : (db : Database) (scope : Scope) (binding : List (List ℕ)) (rows : List Place) → map length binding ≡ map length scope.tables → (level entry : ℕ) → IsRowOf db scope binding rows level entry →
     option_and_then (slice_get (tables_of_rows rows)) (at_entry scope.levels level entry) ≡ at_entry scope.tables level entry
@@ -82,15 +80,18 @@ or_both true b = refl
 or_both false true = refl
 or_both false false = refl
 
-module _ (schema : List Table) (db : Database) (domains : is_of_domains schema db ≡ true) (fitting : FormulasFit schema) where
+module _ (schema : List Table) (db : Database) (domains : is_of_domains schema db ≡ true) where
   -- the negation holds exactly where the condition's formula does not
   negation_says : (cond : Cond) (scope : Scope) → cond_fits schema scope.tables cond ≡ true → (binding : List (List ℕ)) (rows : List Place) → StandsFor db scope binding rows cond →
       holds db (negated (is_true_formula schema cond scope)) rows ≡ not (holds db (is_true_formula schema cond scope) rows)
   negation_says cond scope fits binding rows stands =
       complements schema db domains (is_true_formula schema cond scope) rows
-      (fitting cond scope fits stands.variables (tables_of_rows rows) (length_map (λ (place : Place). place.table) rows ∙ stands.depth)
-      (λ entry named. entry_table db scope binding rows stands.entries 0 entry (stands.main entry named))
-      (λ level entry. entry_table db scope binding rows stands.entries (suc level) entry (stands.inner level entry)))
+      (condition_fits schema cond scope (tables_of_rows rows) fits (record {
+        lengths = stands.variables;
+        depth = length-map rows (λ (place : Place). place.table) ∙ stands.depth;
+        main = λ entry named. entry_table db scope binding rows stands.entries 0 entry (stands.main entry named);
+        inner = λ level entry. entry_table db scope binding rows stands.entries (suc level) entry (stands.inner level entry);
+      })).0
 
   -- ---- at the inner bindings of a block
 
@@ -174,10 +175,10 @@ module _ (schema : List Table) (db : Database) (domains : is_of_domains schema d
       false_there = compare_false_formula schema within op left item
 
       left_kind : is_some (term_kind schema scope.tables left) ≡ true
-      left_kind = both_left_kind op (term_kind schema scope.tables left) (term_kind schema (scope.tables ++ own ∷ []) item) kinds
+      left_kind = first_there op (term_kind schema scope.tables left) (term_kind schema (scope.tables ++ own ∷ []) item) kinds
 
       kinds_there : compares_both op (term_kind schema (scope.tables ++ own ∷ []) left) (term_kind schema (scope.tables ++ own ∷ []) item) ≡ true
-      kinds_there = ap (λ k. compares_both op k (term_kind schema (scope.tables ++ own ∷ []) item)) (outer_kind schema db scope.tables binding own own stands.entries left left_kind) ∙ kinds
+      kinds_there = compares_inside schema op left item scope.tables own kinds
 
       true_says : (row_list : List ℕ) → length row_list ≡ length own → holds_at db true_there rows own row_list ≡ is_true (compare op left_value (item_value row_list))
       true_says row_list same =

@@ -8,10 +8,10 @@ use Rattle.lint_core.specs.declared.database.Database.{Database}
 use Rattle.lint_core.specs.declared.schema.Table.{Table}
 use Rattle.lint_core.specs.Meets.{is_of_domains}
 use Rattle.truth_formula.proofs.Parts.{conds, of_true, of_false, of_and, of_or, of_not, of_compare, of_is_null}
-use Rattle.truth_formula.proofs.Spoken.{FormulasFit, Says}
+use Rattle.truth_formula.proofs.Spoken.{Says}
 use Rattle.truth_formula.proofs.Subqueries.{of_exists, of_in, of_scalar}
 
-module _ (schema : List Table) (db : Database) (domains : is_of_domains schema db ≡ true) (fitting : FormulasFit schema) where
+module _ (schema : List Table) (db : Database) (domains : is_of_domains schema db ≡ true) where
   abbrev SaysHere : Cond → Type 0
   SaysHere = Says schema db
 
@@ -38,11 +38,11 @@ module _ (schema : List Table) (db : Database) (domains : is_of_domains schema d
   at_layer (Cond-F.Not part) = subst SaysHere (sym (c.rolls-Not part.0)) (of_not schema db part.0 part.1)
   at_layer (Cond-F.Compare op left right span) = subst SaysHere (sym (c.rolls-Compare op left right span)) (of_compare schema db domains op left right span)
   at_layer (Cond-F.IsNull t negated span) = subst SaysHere (sym (c.rolls-IsNull t negated span)) (of_is_null schema db domains t negated span)
-  at_layer (Cond-F.Exists block span) = subst SaysHere (sym (c.rolls-Exists block.0 span)) (of_exists schema db domains fitting block.0 span block.1)
+  at_layer (Cond-F.Exists block span) = subst SaysHere (sym (c.rolls-Exists block.0 span)) (of_exists schema db domains block.0 span block.1)
   at_layer (Cond-F.In t block item negated span) =
-      subst SaysHere (sym (c.rolls-In t block.0 item negated span)) (of_in schema db domains fitting t block.0 item negated span block.1)
+      subst SaysHere (sym (c.rolls-In t block.0 item negated span)) (of_in schema db domains t block.0 item negated span block.1)
   at_layer (Cond-F.Scalar op left block item span) =
-      subst SaysHere (sym (c.rolls-Scalar op left block.0 item span)) (of_scalar schema db domains fitting op left block.0 item span block.1)
+      subst SaysHere (sym (c.rolls-Scalar op left block.0 item span)) (of_scalar schema db domains op left block.0 item span block.1)
 
   at_block : (y : Block-F SomeCond SomeBlock) → SaysBlock (roll-Block (block_part_of y))
   at_block y = y.cond.1
