@@ -1,0 +1,14 @@
+pub mod Comparing
+pub mod Cells
+pub mod Leaves
+pub mod Outside
+pub mod Fitting
+pub mod Fits
+mod Quantified
+mod Layers
+mod Inside
+mod Selecting
+mod Spoken
+mod Parts
+mod Subqueries
+mod Truthful
