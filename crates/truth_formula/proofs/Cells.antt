@@ -1,20 +1,20 @@
 -- The value of a term is that of its side with what is added to it, where the variables have the rows of the binding.
-use Rattle.std.proofs.Common.{◌≡◌, ◌∙◌, sym, ap, refl, subst, ℕ, zero, suc, ℤ, pos, ◌+ℤ◌, Bool, true, false, not, List, [], ◌∷◌, length, map, if◌then◌else◌, arith}
+use Rattle.std.proofs.Common.{◌≡◌, ◌∙◌, sym, ap, refl, subst, ℕ, zero, suc, ℤ, pos, ◌+ℤ◌, Bool, true, false, List, [], ◌∷◌, length, map, if◌then◌else◌, arith}
 use Rattle.std.proofs.lemmas.Int.{ints}
-use Rattle.std.specs.Prelude.{Option, Some, None, slice_get, option_and_then, unwrap_or, is_some}
+use Rattle.std.specs.Prelude.{Option, Some, None, slice_get, option_and_then, unwrap_or}
 use Rattle.std.specs.Ordering.{int_eq}
 use Rattle.lint_core.specs.declared.condition.Term.{Term}
 use Rattle.lint_core.specs.declared.condition.Term.TheVariants as term
 use Rattle.lint_core.specs.declared.database.Database.{Database}
 use Rattle.lint_core.specs.declared.database.Value.{Value}
-use Rattle.lint_core.specs.declared.database.Value.TheVariants.{Null, Int, Text}
+use Rattle.lint_core.specs.declared.database.Value.TheVariants.{Null, Int}
 use Rattle.lint_core.specs.declared.schema.Column.{Column}
 use Rattle.lint_core.specs.declared.schema.Domain.{Domain}
 use Rattle.lint_core.specs.declared.schema.Domain.TheVariants as domain
 use Rattle.lint_core.specs.declared.schema.Kind.{Kind}
 use Rattle.lint_core.specs.declared.schema.Kind.TheVariants as kind
 use Rattle.lint_core.specs.declared.schema.Table.{Table}
-use Rattle.lint_core.specs.Comparison.{plus, is_null}
+use Rattle.lint_core.specs.Comparison.{plus}
 use Rattle.lint_core.specs.Condition.{at_entry, place_of, cell_value, term_value}
 use Rattle.lint_core.specs.Database.{Place, value_at}
 use Rattle.lint_core.specs.Fits.{cell_kind, term_kind}

@@ -4,7 +4,7 @@ use Rattle.std.proofs.lemmas.Bool.{or_left, or_right}
 use Rattle.std.proofs.lemmas.Bool.Decides.{nat_tests}
 use Rattle.std.proofs.lemmas.List.Folds.{list_all-map}
 use Rattle.std.specs.List.{list_all, list_any}
-use Rattle.std.specs.Prelude.{Option, Some, None, nat_lt, nat_le, is_some, slice_get, option_and_then}
+use Rattle.std.specs.Prelude.{Option, Some, None, nat_lt, nat_le, is_some}
 use Rattle.lint_tables.specs.declared.op.Op.{Op}
 use Rattle.lint_tables.specs.declared.op.Op.TheVariants.{Eq}
 use Rattle.lint_core.specs.declared.condition.Entry.{Entry}

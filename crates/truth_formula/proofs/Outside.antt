@@ -2,15 +2,14 @@
 use Rattle.std.proofs.Common.{◌≡◌, ◌∙◌, ◌≤◌, ◌<◌, ◌+◌, add-one, sym, ap, refl, subst, ℕ, zero, suc, Bool, true, List, [], ◌∷◌, ◌++◌, length, map, inl, inr, arith}
 use Rattle.std.proofs.lemmas.Bool.{cases_lt}
 use Rattle.std.proofs.lemmas.List.{length-append, length-map}
-use Rattle.std.proofs.lemmas.Option.{slice_get-map, slice_get_past as past_end, same_Some}
+use Rattle.std.proofs.lemmas.Option.{slice_get-map, slice_get_past as past_end}
 use Rattle.std.specs.Option.{option_map}
-use Rattle.std.specs.Prelude.{Option, Some, None, slice_get, option_and_then}
+use Rattle.std.specs.Prelude.{Some, None, slice_get, option_and_then}
 use Rattle.lint_core.specs.Condition.{at_entry}
 use Rattle.lint_core.specs.Database.{below}
 use Rattle.sort_formula.specs.Sides.{Scope, from_number}
 use Rattle.sort_formula.specs.Translation.{inside}
 use Rattle.sort_formula.proofs.Lists.{slice_get_front, slice_get_past, slice_get_last}
-use Rattle.truth_formula.proofs.Cells.{variable_too}
 
 length_below : (n : ℕ) → length (below n) ≡ n
 length_below zero = refl
