@@ -4,3 +4,5 @@ pub mod Leaves
 pub mod Outside
 pub mod Fitting
 pub mod Fits
+pub mod Atoms
+pub mod Bound
