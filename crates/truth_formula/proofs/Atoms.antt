@@ -1,22 +1,29 @@
 -- A test that each atom of a formula passes: of negations, of quantified formulas, and of the formulas of a condition.
-use Rattle.std.proofs.Common.{◌≡◌, ◌∙◌, sym, ap, ap₂, refl, subst, Bool, true, false, ◌&&◌, List, [], ◌∷◌, ◌++◌, map, ℕ}
+use Rattle.std.proofs.Common.{◌≡◌, ◌∙◌, ◌≤◌, sym, ap, ap₂, refl, subst, ℕ, ℤ, pos, ◌-ℤ◌, Bool, true, false, ◌&&◌, ◌||◌, List, [], ◌∷◌, ◌++◌, map, if◌then◌else◌, arith}
+use Rattle.std.proofs.lemmas.List.{append_assoc}
+use Rattle.std.specs.Prelude.{unwrap_or}
 use Rattle.std.proofs.lemmas.List.Folds.{list_all-map}
 use Rattle.std.specs.List.{list_all}
 use Rattle.lint_tables.specs.declared.op.Op.{Op}
-use Rattle.lint_tables.specs.declared.op.Op.TheVariants.{Eq, Ne}
+use Rattle.lint_tables.specs.declared.op.Op.TheVariants.{Eq, Ne, Lt, Le, Gt, Ge}
+use Rattle.lint_tables.specs.Ways.{ways_of}
 use Rattle.lint_tables.specs.Operators.{negation}
 use Rattle.lint_core.specs.declared.condition.Term.{Term}
+use Rattle.lint_core.specs.declared.condition.Term.TheVariants as term
+use Rattle.lint_core.specs.Condition.{at_entry}
 use Rattle.lint_core.specs.declared.condition.Block.{Block, roll-Block, fold-Block, fold-roll-Block, map-Block}
 use Rattle.lint_core.specs.declared.condition.Cond.{Cond, ind-Cond, roll-Cond, fold-roll-Cond, map-Cond}
 use Rattle.lint_core.specs.declared.condition.Cond.TheOpen.{Cond-F, Block-F}
 use Rattle.lint_core.specs.declared.schema.Table.{Table}
-use Rattle.lint_core.specs.Fits.{tables_of}
+use Rattle.sort_formula.specs.declared.formula.Side.{Side}
+use Rattle.sort_formula.specs.declared.formula.Side.TheVariants as side
 use Rattle.sort_formula.specs.declared.formula.Atom.{Atom}
+use Rattle.sort_formula.specs.declared.formula.Atom.TheVariants as atom
 use Rattle.sort_formula.specs.declared.formula.Formula.{Formula, fold-Formula, fold_out-Formula, out-Formula, ind-Formula, roll-Formula, map-Formula}
 use Rattle.sort_formula.specs.declared.formula.Formula.TheVariants as f
 use Rattle.sort_formula.specs.declared.formula.Formula.TheOpen.{Formula-F}
-use Rattle.sort_formula.specs.Negated.{negated, negated_atom}
-use Rattle.sort_formula.specs.Sides.{Scope, compare_formula, compare_false_formula, is_null_formula, not_null_formula}
+use Rattle.sort_formula.specs.Negated.{negated, negated_atom, null_of, fails}
+use Rattle.sort_formula.specs.Sides.{Scope, side_of, added_to, nothing, is_null_term, is_text_term, texts_formula, ways_formula, values_formula, compare_formula, compare_false_formula, is_null_formula, not_null_formula}
 use Rattle.sort_formula.specs.Translation as translating
 use Rattle.sort_formula.specs.Translation.{Both, swapped_if, inside, translation, translation_step, exist_rows, for_all_rows}
 use Rattle.sort_formula.proofs.Holding.{negated_of_atom, negated_and, negated_or, negated_exists, negated_forall}
@@ -136,6 +143,76 @@ module _ (test other : Atom → Bool) where
     -- the atoms of the negation pass the other test where those of the formula pass the one
     pub negated_passes : (g : Formula) → NegatedWeaker g
     negated_passes = ind-Formula NegatedWeaker (λ x y is. subst (λ z. NegatedWeaker (roll-Formula z)) is (negated_layer y))
+
+-- ---- comparisons that fail, and comparisons
+
+null_passes : (test : Atom → Bool) → ((row column : ℕ) → test (atom.IsNull row column) ≡ true) → (s : Side) (parts : List Formula) → list_all (all_atoms test) parts ≡ true → list_all (all_atoms test) (null_of s ++ parts) ≡ true
+null_passes test null (side.Cell row column) parts all = both_are (all_atoms test (f.Atom (atom.IsNull row column))) (list_all (all_atoms test) parts) (atoms_atom test (atom.IsNull row column) ∙ null row column) all
+null_passes test null side.Zero parts all = all
+null_passes test null (side.Text text) parts all = all
+
+-- of a comparison that fails the opposite is asked
+pub fails_passes : (test : Atom → Bool) → ((row column : ℕ) → test (atom.IsNull row column) ≡ true) → (left right : Side) (opposite : Atom) → test opposite ≡ true → all_atoms test (fails left right opposite) ≡ true
+fails_passes test null left right opposite passes =
+    let last = f.Atom opposite ∷ [] in
+    let last_passes : list_all (all_atoms test) last ≡ true = ap (λ b. b && true) (atoms_atom test opposite ∙ passes) in
+    atoms_or test (null_of left ++ null_of right ++ last)
+    ∙ (ap (list_all (all_atoms test)) (append_assoc (null_of left) (null_of right) last)
+    ∙ null_passes test null left (null_of right ++ last) (null_passes test null right last last_passes))
+
+module _ (test : Atom → Bool) (schema : List Table) (scope : Scope) where
+  abbrev of : Term → Side
+  of t = side_of schema scope t
+
+  abbrev added : Term → ℤ
+  added t = added_to schema scope t
+
+  -- each bound of a comparison passes
+  abbrev BoundsPass : Term → Term → Type 0
+  BoundsPass a b = (less : ℕ) → less ≤ 1 → test (atom.Le (of a) (of b) (added b -ℤ added a -ℤ pos less)) ≡ true
+
+  nothing_passes : all_atoms test nothing ≡ true
+  nothing_passes = atoms_or test []
+
+  bound_passes : (a b : Term) (less : ℕ) → less ≤ 1 → BoundsPass a b → all_atoms test (f.Atom (atom.Le (of a) (of b) (added b -ℤ added a -ℤ pos less))) ≡ true
+  bound_passes a b less one bounds = atoms_atom test (atom.Le (of a) (of b) (added b -ℤ added a -ℤ pos less)) ∙ bounds less one
+
+  ways_pass : (op : Op) (a b : Term) → BoundsPass a b → BoundsPass b a → all_atoms test (ways_formula schema scope a b (ways_of op)) ≡ true
+  ways_pass Eq a b first second =
+      two_and test (f.Atom (atom.Le (of a) (of b) (added b -ℤ added a -ℤ pos 0))) (f.Atom (atom.Le (of b) (of a) (added a -ℤ added b -ℤ pos 0))) (bound_passes a b 0 (omega arith) first) (bound_passes b a 0 (omega arith) second)
+  ways_pass Ne a b first second =
+      two_or test (f.Atom (atom.Le (of a) (of b) (added b -ℤ added a -ℤ pos 1))) (f.Atom (atom.Le (of b) (of a) (added a -ℤ added b -ℤ pos 1))) (bound_passes a b 1 (omega arith) first) (bound_passes b a 1 (omega arith) second)
+  ways_pass Lt a b first second = bound_passes a b 1 (omega arith) first
+  ways_pass Le a b first second = bound_passes a b 0 (omega arith) first
+  ways_pass Gt a b first second = bound_passes b a 1 (omega arith) second
+  ways_pass Ge a b first second = bound_passes b a 0 (omega arith) second
+
+  chosen : (b : Bool) (g h : Formula) → all_atoms test g ≡ true → all_atoms test h ≡ true → all_atoms test (if b then g else h) ≡ true
+  chosen true g h first second = first
+  chosen false g h first second = second
+
+  module _ (same : (left right : Side) → test (atom.TextEq left right) ≡ true) (differ : (left right : Side) → test (atom.TextNe left right) ≡ true) where
+    texts_pass : (op : Op) (left right : Side) → all_atoms test (texts_formula schema scope op left right) ≡ true
+    texts_pass Eq left right = atoms_atom test (atom.TextEq left right) ∙ same left right
+    texts_pass Ne left right = atoms_atom test (atom.TextNe left right) ∙ differ left right
+    texts_pass Lt left right = nothing_passes
+    texts_pass Le left right = nothing_passes
+    texts_pass Gt left right = nothing_passes
+    texts_pass Ge left right = nothing_passes
+
+    pub compare_passes : (op : Op) (a b : Term) → BoundsPass a b → BoundsPass b a → all_atoms test (compare_formula schema scope op a b) ≡ true
+    compare_passes op a b first second =
+        chosen (is_null_term schema scope a || is_null_term schema scope b) nothing (values_formula schema scope op a b) nothing_passes
+        (chosen (is_text_term schema scope a || is_text_term schema scope b) (texts_formula schema scope op (of a) (of b)) (ways_formula schema scope a b (ways_of op)) (texts_pass op (of a) (of b)) (ways_pass op a b first second))
+
+  module _ (null : (row column : ℕ) → test (atom.IsNull row column) ≡ true) (not_null : (row column : ℕ) → test (atom.NotNull row column) ≡ true) where
+    pub null_passes_too : (t : Term) → (all_atoms test (is_null_formula schema scope t) ≡ true) × (all_atoms test (not_null_formula schema scope t) ≡ true)
+    null_passes_too (term.Cell level entry column plus) =
+        let row = unwrap_or (at_entry scope.levels level entry) 0 in
+        (atoms_atom test (atom.IsNull row column) ∙ null row column, atoms_atom test (atom.NotNull row column) ∙ not_null row column)
+    null_passes_too (term.Number value unit) = (nothing_passes, atoms_and test [])
+    null_passes_too (term.Text text) = (nothing_passes, atoms_and test [])
+    null_passes_too term.Null = (atoms_and test [], nothing_passes)
 
 -- ---- the formulas of a condition, where those of comparisons and of IS NULL pass, and negations do
 

@@ -1,19 +1,15 @@
 -- When a formula has only variables that are bound: one that fits, joins no rows and has moderate bounds. The
 -- formulas of a condition join no rows, and bounds grow by at most one in a negation.
-use Rattle.std.proofs.Common.{◌≡◌, ◌∙◌, ◌≤◌, ◌<◌, ◌+◌, ◌^◌, sym, ap, ap₂, refl, subst, ℕ, ℤ, pos, neg_ℤ, ◌-ℤ◌, Bool, true, false, ◌&&◌, not, List, [], ◌∷◌, ◌++◌, map, length, inl, inr, arith}
+use Rattle.std.proofs.Common.{◌≡◌, ◌∙◌, ◌≤◌, ◌<◌, ◌+◌, ◌^◌, sym, ap, refl, subst, ℕ, ℤ, pos, neg_ℤ, ◌-ℤ◌, Bool, true, false, ◌&&◌, List, [], ◌∷◌, ◌++◌, map, length, inl, inr, arith}
 use Rattle.std.proofs.lemmas.Bool.Decides.{nat_tests}
 use Rattle.std.proofs.lemmas.Int.{ints}
 use Rattle.std.proofs.lemmas.Option.{slice_get_within}
-use Rattle.std.proofs.lemmas.List.{append_assoc}
 use Rattle.std.specs.List.{list_all}
 use Rattle.std.specs.Option.{option_map_or}
-use Rattle.std.specs.Prelude.{Option, Some, None, nat_lt, slice_get, option_and_then, is_some, if◌then◌else◌, ◌||◌}
+use Rattle.std.specs.Prelude.{Option, Some, None, nat_lt, slice_get, option_and_then, is_some}
 use Rattle.lint_tables.specs.declared.op.Op.{Op}
-use Rattle.lint_tables.specs.declared.op.Op.TheVariants.{Eq, Ne, Lt, Le, Gt, Ge}
-use Rattle.lint_tables.specs.Ways.{ways_of}
 use Rattle.lint_core.specs.declared.condition.Cond.{Cond}
 use Rattle.lint_core.specs.declared.condition.Term.{Term}
-use Rattle.lint_core.specs.declared.condition.Term.TheVariants as term
 use Rattle.lint_core.specs.declared.schema.Kind.{Kind}
 use Rattle.lint_core.specs.declared.schema.Table.{Table}
 use Rattle.lint_core.specs.Domain.{int_le}
@@ -25,14 +21,14 @@ use Rattle.sort_formula.specs.declared.formula.Atom.TheVariants as atom
 use Rattle.sort_formula.specs.declared.formula.Formula.{Formula, fold_out-Formula, out-Formula, ind-Formula, roll-Formula, map-Formula}
 use Rattle.sort_formula.specs.declared.formula.Formula.TheVariants as f
 use Rattle.sort_formula.specs.declared.formula.Formula.TheOpen.{Formula-F}
-use Rattle.sort_formula.specs.Negated.{negated, negated_atom, null_of, fails}
+use Rattle.sort_formula.specs.Negated.{negated, negated_atom}
 use Rattle.sort_formula.specs.Sentences.{Meaning, layer_is, kind_at, is_number_kind, is_number_side, is_text_side, atom_fits, formula_fits, is_variable, has_variable, is_moderate, atom_is_bound, is_bound}
-use Rattle.sort_formula.specs.Sides.{Scope, nothing, side_of, added_to, is_null_term, is_text_term, texts_formula, values_formula, ways_formula, compare_formula, is_null_formula, not_null_formula}
-use Rattle.sort_formula.specs.Translation.{Both, translation}
+use Rattle.sort_formula.specs.Sides.{Scope, compare_formula, is_null_formula, not_null_formula}
+use Rattle.sort_formula.specs.Translation.{translation}
 use Rattle.sort_formula.proofs.Fitting.{bound_parts, fits_atom, fits_and, fits_or, fits_exists, fits_forall}
 use Rattle.sort_formula.proofs.Lists.{both_left, both_right}
-use Rattle.truth_formula.specs.Bounds.{atom_is_within, within_step, is_within}
-use Rattle.truth_formula.proofs.Atoms.{all_atoms, atoms_atom, atoms_and, atoms_or, atoms_exists, atoms_forall, two_and, two_or, weaker, negated_passes, translation_passes}
+use Rattle.truth_formula.specs.Bounds.{atom_is_within, is_within}
+use Rattle.truth_formula.proofs.Atoms.{all_atoms, atoms_atom, atoms_and, atoms_or, atoms_exists, atoms_forall, weaker, negated_passes, translation_passes, fails_passes, compare_passes, null_passes_too}
 use Rattle.truth_formula.proofs.Fitting.{both_are, negation_fits}
 
 -- ---- formulas that join no rows
@@ -49,20 +45,6 @@ joins_none (atom.Other row other) = false
 abbrev pub has_no_joins : Formula → Bool
 has_no_joins = all_atoms joins_none
 
-null_passes : (test : Atom → Bool) → ((row column : ℕ) → test (atom.IsNull row column) ≡ true) → (s : Side) (parts : List Formula) → list_all (all_atoms test) parts ≡ true → list_all (all_atoms test) (null_of s ++ parts) ≡ true
-null_passes test null (side.Cell row column) parts all = both_are (all_atoms test (f.Atom (atom.IsNull row column))) (list_all (all_atoms test) parts) (atoms_atom test (atom.IsNull row column) ∙ null row column) all
-null_passes test null side.Zero parts all = all
-null_passes test null (side.Text text) parts all = all
-
--- of a comparison that fails the opposite is asked
-pub fails_passes : (test : Atom → Bool) → ((row column : ℕ) → test (atom.IsNull row column) ≡ true) → (left right : Side) (opposite : Atom) → test opposite ≡ true → all_atoms test (fails left right opposite) ≡ true
-fails_passes test null left right opposite passes =
-    let last = f.Atom opposite ∷ [] in
-    let last_passes : list_all (all_atoms test) last ≡ true = ap (λ b. b && true) (atoms_atom test opposite ∙ passes) in
-    atoms_or test (null_of left ++ null_of right ++ last)
-    ∙ (ap (list_all (all_atoms test)) (append_assoc (null_of left) (null_of right) last)
-    ∙ null_passes test null left (null_of right ++ last) (null_passes test null right last last_passes))
-
 opposite_joins_none : (a : Atom) → joins_none a ≡ true → has_no_joins (negated_atom a) ≡ true
 opposite_joins_none (atom.Le left right most) none = fails_passes joins_none (λ row column. refl) left right (atom.Le right left (neg_ℤ most -ℤ pos 1)) refl
 opposite_joins_none (atom.TextEq left right) none = fails_passes joins_none (λ row column. refl) left right (atom.TextNe left right) refl
@@ -76,55 +58,12 @@ pub negated_joins_none : (g : Formula) → has_no_joins g ≡ true → has_no_jo
 negated_joins_none = negated_passes joins_none joins_none opposite_joins_none
 
 module _ (schema : List Table) where
-  nothing_joins : has_no_joins nothing ≡ true
-  nothing_joins = atoms_or joins_none []
+  compare_joins : (scope : Scope) (op : Op) (a b : Term) → has_no_joins (compare_formula schema scope op a b) ≡ true
+  compare_joins scope op a b =
+      compare_passes joins_none schema scope (λ left right. refl) (λ left right. refl) op a b (λ less one. refl) (λ less one. refl)
 
-  bound_joins : (left right : Side) (most : ℤ) → has_no_joins (f.Atom (atom.Le left right most)) ≡ true
-  bound_joins left right most = atoms_atom joins_none (atom.Le left right most)
-
-  module _ (scope : Scope) where
-    abbrev of : Term → Side
-    of t = side_of schema scope t
-
-    abbrev added : Term → ℤ
-    added t = added_to schema scope t
-
-    ways_join : (op : Op) (a b : Term) → has_no_joins (ways_formula schema scope a b (ways_of op)) ≡ true
-    ways_join Eq a b =
-        let one = added b -ℤ added a -ℤ pos 0 in
-        let two = added a -ℤ added b -ℤ pos 0 in
-        two_and joins_none (f.Atom (atom.Le (of a) (of b) one)) (f.Atom (atom.Le (of b) (of a) two)) (bound_joins (of a) (of b) one) (bound_joins (of b) (of a) two)
-    ways_join Ne a b =
-        let one = added b -ℤ added a -ℤ pos 1 in
-        let two = added a -ℤ added b -ℤ pos 1 in
-        two_or joins_none (f.Atom (atom.Le (of a) (of b) one)) (f.Atom (atom.Le (of b) (of a) two)) (bound_joins (of a) (of b) one) (bound_joins (of b) (of a) two)
-    ways_join Lt a b = bound_joins (of a) (of b) (added b -ℤ added a -ℤ pos 1)
-    ways_join Le a b = bound_joins (of a) (of b) (added b -ℤ added a -ℤ pos 0)
-    ways_join Gt a b = bound_joins (of b) (of a) (added a -ℤ added b -ℤ pos 1)
-    ways_join Ge a b = bound_joins (of b) (of a) (added a -ℤ added b -ℤ pos 0)
-
-    texts_join : (op : Op) (left right : Side) → has_no_joins (texts_formula schema scope op left right) ≡ true
-    texts_join Eq left right = atoms_atom joins_none (atom.TextEq left right)
-    texts_join Ne left right = atoms_atom joins_none (atom.TextNe left right)
-    texts_join Lt left right = nothing_joins
-    texts_join Le left right = nothing_joins
-    texts_join Gt left right = nothing_joins
-    texts_join Ge left right = nothing_joins
-
-    chosen : (b : Bool) (g h : Formula) → has_no_joins g ≡ true → has_no_joins h ≡ true → has_no_joins (if b then g else h) ≡ true
-    chosen true g h first second = first
-    chosen false g h first second = second
-
-    compare_joins : (op : Op) (a b : Term) → has_no_joins (compare_formula schema scope op a b) ≡ true
-    compare_joins op a b =
-        chosen (is_null_term schema scope a || is_null_term schema scope b) nothing (values_formula schema scope op a b) nothing_joins
-        (chosen (is_text_term schema scope a || is_text_term schema scope b) (texts_formula schema scope op (of a) (of b)) (ways_formula schema scope a b (ways_of op)) (texts_join op (of a) (of b)) (ways_join op a b))
-
-    null_joins : (t : Term) → (has_no_joins (is_null_formula schema scope t) ≡ true) × (has_no_joins (not_null_formula schema scope t) ≡ true)
-    null_joins (term.Cell level entry column plus) = (atoms_atom joins_none _, atoms_atom joins_none _)
-    null_joins (term.Number value unit) = (nothing_joins, atoms_and joins_none [])
-    null_joins (term.Text text) = (nothing_joins, atoms_and joins_none [])
-    null_joins term.Null = (atoms_and joins_none [], nothing_joins)
+  null_joins : (scope : Scope) (t : Term) → (has_no_joins (is_null_formula schema scope t) ≡ true) × (has_no_joins (not_null_formula schema scope t) ≡ true)
+  null_joins scope t = null_passes_too joins_none schema scope (λ row column. refl) (λ row column. refl) t
 
   -- the formulas of a condition join no rows
   pub condition_joins_none : (cond : Cond) (scope : Scope) → (has_no_joins (translation schema cond scope).true ≡ true) × (has_no_joins (translation schema cond scope).false ≡ true)
@@ -325,3 +264,60 @@ module _ (schema : List Table) where
 
   pub negated_is_bound : (g : Formula) (outside : List ℕ) → formula_fits schema g outside ≡ true → has_no_joins g ≡ true → is_within (2 ^ 65) g ≡ true → is_bound (negated g) outside ≡ true
   negated_is_bound g outside fits none low = fitting_is_bound (negated g) outside (negation_fits schema g outside fits) (negated_joins_none g none) (negated_is_moderate g low)
+
+-- ---- a range of bounds that negation keeps
+
+-- from minus one more than the number up to it
+abbrev pub is_in_range : ℕ → Atom → Bool
+is_in_range most_of_all (atom.Le left right most) = int_le (neg_ℤ (pos (most_of_all + 1))) most && int_le most (pos most_of_all)
+is_in_range most_of_all (atom.TextEq left right) = true
+is_in_range most_of_all (atom.TextNe left right) = true
+is_in_range most_of_all (atom.IsNull row column) = true
+is_in_range most_of_all (atom.NotNull row column) = true
+is_in_range most_of_all (atom.Same row other) = true
+is_in_range most_of_all (atom.Other row other) = true
+
+range_above : (k : ℕ) (most : ℤ) → int_le most (pos k) ≡ true → int_le (neg_ℤ (pos (k + 1))) (neg_ℤ most -ℤ pos 1) ≡ true
+range_above k most high = grind (arith, ints)
+
+range_below : (k : ℕ) (most : ℤ) → int_le (neg_ℤ (pos (k + 1))) most ≡ true → int_le (neg_ℤ most -ℤ pos 1) (pos k) ≡ true
+range_below k most low = grind (arith, ints)
+
+opposite_in_range : (k : ℕ) (a : Atom) → is_in_range k a ≡ true → all_atoms (is_in_range k) (negated_atom a) ≡ true
+opposite_in_range k (atom.Le left right most) within =
+    let low = int_le (neg_ℤ (pos (k + 1))) most in
+    let high = int_le most (pos k) in
+    let opposite = neg_ℤ most -ℤ pos 1 in
+    fails_passes (is_in_range k) (λ row column. refl) left right (atom.Le right left opposite)
+    (both_are (int_le (neg_ℤ (pos (k + 1))) opposite) (int_le opposite (pos k)) (range_above k most (both_right low high within)) (range_below k most (both_left low high within)))
+opposite_in_range k (atom.TextEq left right) within = fails_passes (is_in_range k) (λ row column. refl) left right (atom.TextNe left right) refl
+opposite_in_range k (atom.TextNe left right) within = fails_passes (is_in_range k) (λ row column. refl) left right (atom.TextEq left right) refl
+opposite_in_range k (atom.IsNull row column) within = atoms_atom (is_in_range k) (atom.NotNull row column)
+opposite_in_range k (atom.NotNull row column) within = atoms_atom (is_in_range k) (atom.IsNull row column)
+opposite_in_range k (atom.Same row other) within = atoms_atom (is_in_range k) (atom.Other row other)
+opposite_in_range k (atom.Other row other) within = atoms_atom (is_in_range k) (atom.Same row other)
+
+-- so negations, however deep, have bounds of the same range
+pub negated_in_range : (k : ℕ) (g : Formula) → all_atoms (is_in_range k) g ≡ true → all_atoms (is_in_range k) (negated g) ≡ true
+negated_in_range k = negated_passes (is_in_range k) (is_in_range k) (opposite_in_range k)
+
+range_low : (k n : ℕ) (most : ℤ) → k + 1 ≤ n → int_le (neg_ℤ (pos (k + 1))) most ≡ true → int_le (neg_ℤ (pos n)) most ≡ true
+range_low k n most more low = grind (arith, ints)
+
+range_high : (k n : ℕ) (most : ℤ) → k + 1 ≤ n → int_le most (pos k) ≡ true → int_le most (pos n) ≡ true
+range_high k n most more high = grind (arith, ints)
+
+atom_in_range : (k n : ℕ) → k + 1 ≤ n → (a : Atom) → is_in_range k a ≡ true → atom_is_within n a ≡ true
+atom_in_range k n more (atom.Le left right most) within =
+    let low = int_le (neg_ℤ (pos (k + 1))) most in
+    let high = int_le most (pos k) in
+    both_are (int_le (neg_ℤ (pos n)) most) (int_le most (pos n)) (range_low k n most more (both_left low high within)) (range_high k n most more (both_right low high within))
+atom_in_range k n more (atom.TextEq left right) within = refl
+atom_in_range k n more (atom.TextNe left right) within = refl
+atom_in_range k n more (atom.IsNull row column) within = refl
+atom_in_range k n more (atom.NotNull row column) within = refl
+atom_in_range k n more (atom.Same row other) within = refl
+atom_in_range k n more (atom.Other row other) within = refl
+
+pub range_is_within : (k n : ℕ) → k + 1 ≤ n → (g : Formula) → all_atoms (is_in_range k) g ≡ true → is_within n g ≡ true
+range_is_within k n more = weaker (is_in_range k) (atom_is_within n) (atom_in_range k n more)

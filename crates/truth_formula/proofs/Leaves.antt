@@ -1,8 +1,7 @@
 -- The formula of a comparison holds exactly where it is true, that of its negation exactly where it is false; so with
 -- IS NULL and IS NOT NULL.
-use Rattle.std.proofs.Common.{◌≡◌, ◌∙◌, sym, ap, refl, ℕ, ℤ, Bool, true, false, not, ◌||◌, List, [], ◌∷◌, length, map}
+use Rattle.std.proofs.Common.{◌≡◌, ◌∙◌, sym, ap, refl, ℕ, ℤ, true, not, List, [], length, map}
 use Rattle.std.specs.Prelude.{Option, Some, None, unwrap_or, is_some}
-use Rattle.std.specs.Option.{option_map_or}
 use Rattle.lint_tables.specs.declared.op.Op.{Op}
 use Rattle.lint_tables.specs.Operators.{negation}
 use Rattle.lint_tables.specs.Ways.{ways_of}
