@@ -1,4 +1,4 @@
-//! Certificates: proofs that a question's sentence holds in no database.
+//! Certificates: proofs that a question's sentence holds in no database that meets the schema.
 use crate::database::Value;
 use lint_base::Items;
 
@@ -49,7 +49,7 @@ pub enum Step {
     Or {
         fact: u32,
     },
-    /// Takes a row that a quantifier speaks of.
+    /// Takes a new row, of which a quantifier says that it is there.
     Ex {
         fact: u32,
     },
@@ -82,7 +82,8 @@ pub enum Step {
     },
 }
 
-/// A certificate for a question of a query. Both count from 1. The value is NULL but for a constant column.
+/// A certificate for a question of a query. Both count from 1. The value is that of a constant column; for every
+/// other question it is not looked at, and NULL where this program writes it.
 #[derive(Drop)]
 pub struct Cert {
     pub query: u32,

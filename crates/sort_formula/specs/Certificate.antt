@@ -1,4 +1,4 @@
--- When the steps of a certificate refute a sentence among the axioms of a schema. A reader of the steps keeps open
+-- When the steps of a certificate refute a sentence, given the axioms of a schema. A reader of the steps keeps open
 -- branches. At the start there is one, with the sentence as fact 0, the axioms in order as the facts after it, and no
 -- row. A step acts on the first branch: it puts its children in its place, or closes it. The steps are accepted
 -- where each is right in its turn, every branch is closed and no step is left.

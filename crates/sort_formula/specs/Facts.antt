@@ -1,5 +1,5 @@
 -- What a reader of a certificate keeps of one branch: its facts, and the table of each of its rows. A fact is a
--- formula with the number of a row of the branch for each of its variables. Facts and rows count from 0.
+-- formula with the number of a row of the branch for each of its free variables. Facts and rows count from 0.
 use Rattle.std.specs.Prelude.{ℕ, Bool, true, false, ◌&&◌, nat_eq, List, Option, Some, None, slice_get, option_and_then}
 use Rattle.lint_core.specs.declared.schema.Domain.{Domain}
 use Rattle.lint_core.specs.declared.schema.Column.{Column}

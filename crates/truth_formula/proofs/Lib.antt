@@ -12,3 +12,5 @@ mod Spoken
 mod Parts
 mod Subqueries
 mod Truthful
+pub mod Atoms
+pub mod Bound
