@@ -30,7 +30,7 @@ use Rattle.sort_formula.proofs.Realized.{Realized, OnePlace, says, one_place}
 
 -- ---- tests of an option, texts and sides
 
-pub chosen : {A : Type 0} (b : Bool) (o : Option A) (x : A) → (if b then o else None) ≡ Some x → (b ≡ true) × (o ≡ Some x)
+chosen : {A : Type 0} (b : Bool) (o : Option A) (x : A) → (if b then o else None) ≡ Some x → (b ≡ true) × (o ≡ Some x)
 chosen true o x at = (refl, at)
 chosen false o x at = cc
 
@@ -38,7 +38,7 @@ pub passes : {A : Type 0} (test : A → Bool) (o : Option A) → option_map_or t
 passes test None h = cc
 passes test (Some x) h = (x, refl, h)
 
-pub one_text : (a b : List ℕ) → is_same_text a b ≡ true → a ≡ b
+one_text : (a b : List ℕ) → is_same_text a b ≡ true → a ≡ b
 one_text a b same = (slice_eq-Decides Decides-eqb a b (is_same_text a b) refl).0 same
 
 same_texts : (a b : List ℕ) → a ≡ b → is_same_text a b ≡ true
@@ -81,11 +81,6 @@ equal_texts (Int a) w h = cc
 equal_texts (Text a) Null h = cc
 equal_texts (Text a) (Int b) h = cc
 equal_texts (Text a) (Text b) h = ap Text (one_text a b h)
-
-text_in : Value → List ℕ
-text_in Null = []
-text_in (Int n) = []
-text_in (Text text) = text
 
 not_both : (b : Bool) → not b ≡ true → b ≡ true → ⊥
 not_both true h given = cc

@@ -48,7 +48,7 @@ pub place_at : (places : List Place) (tables : List ℕ) (i t : ℕ) → map (λ
 place_at places tables i t same at =
     of_table places i t (slice_get places i) refl (sym (slice_get-map (λ (p : Place). p.table) places i) ∙ (ap (λ ts. slice_get ts i) same ∙ at))
 
-pub same_place : (o p : Option Place) → is_same_place o p ≡ true → o ≡ p
+same_place : (o p : Option Place) → is_same_place o p ≡ true → o ≡ p
 same_place None p same = cc
 same_place (Some a) None same = cc
 same_place (Some a) (Some b) same =

@@ -1,4 +1,5 @@
--- A right step leads from a realized branch to a realized branch, so steps that close every branch close none that is realized.
+-- A right step leads from a realized branch to a realized one among its children, so steps that close every branch
+-- close none that is realized.
 use Rattle.std.proofs.Common.{◌≡◌, ◌∙◌, sym, ap, refl, subst, ℕ, Bool, true, false, ◌<◌, ◌⊎◌, inl, inr, List, [], ◌∷◌, ◌++◌, length, map, arith}
 use Rattle.std.proofs.lemmas.Bool.{and_parts, or_cases, eqb-true}
 use Rattle.std.proofs.lemmas.Bool.Decides.{nat_tests}

@@ -28,4 +28,4 @@ pub use laws::{accepted_steps_refute, negation_complements, placing_renames};
 pub use negation::negate;
 pub use placing::place;
 pub use sentence::Sentence;
-pub use worked::worked_formulas;
+pub use worked::{worked_formulas, worked_steps};
