@@ -1,11 +1,12 @@
 //! The constraints of a schema as sentences.
 //!
 //! The layer above may use `axioms`. Of `specs/` a reader must believe `Spoken`; which sentences they are is `Axioms`
-//! of `sort_formula`. The law `axioms_are_the_constraints` says what they are for.
+//! of `sort_formula`. The law `axioms_are_the_constraints` says what they are for, and `accepted_sentence_fails` what
+//! an accepted certificate shows.
 #![tactic(auto)]
 
 mod axiom;
 mod laws;
 
 pub use axiom::Axiom;
-pub use laws::axioms_are_the_constraints;
+pub use laws::{accepted_sentence_fails, axioms_are_the_constraints};
