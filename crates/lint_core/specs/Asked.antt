@@ -3,10 +3,9 @@
 -- a column; E4 of each two such items of one kind; E5 of each entry of the main FROM list, beside others, that no
 -- item and no order key names, where no conjunct that does not name it has a scalar subquery; E6 of each
 -- predicate, then E7 of each; E8 of each two main entries of one table; E10 of each NOT IN subquery that selects a column.
-use Rattle.std.specs.Prelude.{ℕ, Bool, true, false, ◌&&◌, ◌||◌, not, nat_eq, nat_lt, List, [], ◌∷◌, ◌++◌, length, map, Option, slice_get, is_some}
+use Rattle.std.specs.Prelude.{ℕ, Bool, true, false, ◌&&◌, ◌||◌, not, nat_eq, nat_lt, List, ◌∷◌, ◌++◌, length, map, slice_get, is_some}
 use Rattle.std.specs.List.{list_any, filter, flat_map}
 use Rattle.std.specs.Option.{option_map_or}
-use Rattle.lint_core.specs.declared.condition.Term.{Term}
 use Rattle.lint_core.specs.declared.condition.Cond.{Cond}
 use Rattle.lint_core.specs.declared.condition.Block.{out-Block}
 use Rattle.lint_core.specs.declared.condition.Entry.{Entry}
@@ -17,7 +16,7 @@ use Rattle.lint_core.specs.declared.query.Question.TheVariants.{OneRow, Empty, N
 use Rattle.lint_core.specs.declared.schema.Table.{Table}
 use Rattle.lint_core.specs.Database.{below}
 use Rattle.lint_core.specs.Kind.{are_of_one_kind}
-use Rattle.lint_core.specs.Fits.{main_tables, tables_of, term_kind}
+use Rattle.lint_core.specs.Fits.{main_tables, term_kind}
 use Rattle.lint_core.specs.Conjuncts.{conjuncts}
 use Rattle.lint_core.specs.Naming.{term_names, names, has_scalar}
 use Rattle.lint_core.specs.Predicates.{predicates}

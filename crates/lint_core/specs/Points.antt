@@ -1,7 +1,7 @@
 -- The points at which a question may fail: one binding, two bindings, or one binding of all main
 -- entries but one. A point exists
 -- where each of its places has a row.
-use Rattle.std.specs.Prelude.{ℕ, suc, Bool, true, false, ◌&&◌, not, nat_eq, nat_lt, List, [], ◌∷◌, length, slice_get, unwrap_or}
+use Rattle.std.specs.Prelude.{ℕ, Bool, true, false, ◌&&◌, not, nat_eq, nat_lt, List, [], ◌∷◌, length, slice_get, unwrap_or}
 use Rattle.std.specs.Prelude.{insert, remove}
 use Rattle.std.specs.Cmp.Lexicographic.{pointwise}
 use Rattle.lint_core.specs.declared.database.Database.{Database}

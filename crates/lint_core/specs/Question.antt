@@ -2,11 +2,10 @@
 -- clause of the question says what has to be true there. A clause is decided only where each condition that it
 -- names has a truth at each binding that it names: instead of yes or no there is else the place in the text of
 -- the first scalar subquery that gives two rows. Of a question that is not asked of the query nothing is claimed.
-use Rattle.std.specs.Prelude.{ℕ, Bool, true, false, ◌&&◌, ◌||◌, ◌≡◌, not, nat_lt, List, [], ◌∷◌, length, map, Option, slice_get, unwrap_or, if◌then◌else◌, remove}
+use Rattle.std.specs.Prelude.{ℕ, Bool, true, false, ◌&&◌, ◌||◌, ◌≡◌, not, nat_lt, List, [], ◌∷◌, length, map, slice_get, if◌then◌else◌, remove}
 use Rattle.std.specs.List.{list_all, list_any}
 use Rattle.std.specs.Option.{option_map_or}
 use Rattle.std.specs.Prelude.{Ok, Err}
-use Rattle.lint_base.specs.declared.place.Span.{Span}
 use Rattle.lint_core.specs.declared.condition.Cond.{Cond}
 use Rattle.lint_core.specs.declared.condition.Cond.TheVariants as cond
 use Rattle.lint_core.specs.declared.condition.Entry.{Entry}

@@ -1,5 +1,5 @@
 -- Formulas whose bounds lie within plus or minus a number.
-use Rattle.std.specs.Prelude.{ℕ, ℤ, pos, neg_ℤ, Bool, true, ◌&&◌, List}
+use Rattle.std.specs.Prelude.{ℕ, pos, neg_ℤ, Bool, true, ◌&&◌}
 use Rattle.std.specs.List.{list_all}
 use Rattle.lint_core.specs.Domain.{int_le}
 use Rattle.sort_formula.specs.declared.formula.Atom.{Atom}
