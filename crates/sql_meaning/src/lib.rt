@@ -11,8 +11,6 @@ mod clauses;
 mod conjunction;
 mod database_meets;
 mod evaluation;
-#[cfg(test)]
-mod fail_tests;
 mod fails;
 mod levels;
 mod points;
