@@ -12,3 +12,5 @@ mod Spoken
 mod Parts
 mod Subqueries
 mod Truthful
+mod Numbered
+mod Alike
