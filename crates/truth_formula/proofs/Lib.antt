@@ -14,3 +14,4 @@ mod Subqueries
 mod Truthful
 mod Numbered
 mod Alike
+mod FittingParts
