@@ -18,17 +18,14 @@ use Rattle.lint_core.specs.Fits.{cond_fits, tables_of, is_plain, term_kind, sele
 use Rattle.lint_core.specs.Fits as fitting
 use Rattle.lint_core.specs.Kind.{compares_both}
 use Rattle.lint_core.specs.Predicates.{first_or, predicates, with_replaced}
-use Rattle.lint_core.specs.Subqueries.{Subquery, subquery, is_column, scalar_subqueries, not_in_subqueries}
 use Rattle.lint_core.proofs.Parted.{conjuncts_true, conjuncts_false, conjuncts_and, conjuncts_or, conjuncts_not, conjuncts_compare, conjuncts_is_null, conjuncts_exists, conjuncts_in, conjuncts_scalar}
 use Rattle.lint_core.proofs.Parted.{replaced_true, replaced_false, replaced_and, replaced_or, replaced_not, replaced_compare, replaced_is_null, replaced_exists, replaced_in_subquery, replaced_scalar}
 use Rattle.lint_core.proofs.Parted.{replaced_among, block_replaced}
-use Rattle.lint_core.proofs.Parted.{scalars_true, scalars_false, scalars_and, scalars_or, scalars_not, scalars_compare, scalars_is_null, scalars_exists, scalars_in, scalars_scalar}
-use Rattle.lint_core.proofs.Parted.{not_ins_true, not_ins_false, not_ins_and, not_ins_or, not_ins_not, not_ins_compare, not_ins_is_null, not_ins_exists, not_ins_in, not_ins_scalar}
 use Rattle.sort_formula.proofs.Lists.{both_left, both_right}
 use Rattle.truth_formula.proofs.Fitting.{both_are}
 use Rattle.truth_formula.proofs.Layers.{block_fit, fits_and, fits_or, fits_not, fits_exists, fits_in, fits_scalar}
 
-all_append : {A : Type 0} (p : A → Bool) (xs ys : List A) → list_all p xs ≡ true → list_all p ys ≡ true → list_all p (xs ++ ys) ≡ true
+pub all_append : {A : Type 0} (p : A → Bool) (xs ys : List A) → list_all p xs ≡ true → list_all p ys ≡ true → list_all p (xs ++ ys) ≡ true
 all_append p xs ys first second = list_all-append p xs ys ∙ both_are (list_all p xs) (list_all p ys) first second
 
 module _ (schema : List Table) where
@@ -40,7 +37,7 @@ module _ (schema : List Table) where
   abbrev entries_fit : Block → Bool
   entries_fit block = nat_le (length block.entries) 16 && list_all (λ (e : Entry). nat_lt e.table (length schema)) block.entries
 
-  inner_fits : (block : Block) (tables : List (List ℕ)) → (block_fit schema block).fits tables ≡ true → cond_fits schema (inner tables block) block.cond ≡ true
+  pub inner_fits : (block : Block) (tables : List (List ℕ)) → (block_fit schema block).fits tables ≡ true → cond_fits schema (inner tables block) block.cond ≡ true
   inner_fits block tables fit = both_right (entries_fit block) (cond_fits schema (inner tables block) block.cond) fit
 
   module _ (op : Op) (left : Term) (block : Block) (item : Term) (tables : List (List ℕ)) where
@@ -56,14 +53,14 @@ module _ (schema : List Table) where
     selected_inner : selected_fits schema tables op left (block_fit schema block) item ≡ true → cond_fits schema (inner tables block) block.cond ≡ true
     selected_inner fit = inner_fits block tables (selected_block fit)
 
-  exists_inner : (tables : List (List ℕ)) (block : Block) (span : Span) → cond_fits schema tables (c.Exists block span) ≡ true → cond_fits schema (inner tables block) block.cond ≡ true
+  pub exists_inner : (tables : List (List ℕ)) (block : Block) (span : Span) → cond_fits schema tables (c.Exists block span) ≡ true → cond_fits schema (inner tables block) block.cond ≡ true
   exists_inner tables block span fit = inner_fits block tables (sym (fits_exists schema tables block span) ∙ fit)
 
-  in_inner : (tables : List (List ℕ)) (t : Term) (block : Block) (item : Term) (negated : Bool) (span : Span) → cond_fits schema tables (c.In t block item negated span) ≡ true →
+  pub in_inner : (tables : List (List ℕ)) (t : Term) (block : Block) (item : Term) (negated : Bool) (span : Span) → cond_fits schema tables (c.In t block item negated span) ≡ true →
       cond_fits schema (inner tables block) block.cond ≡ true
   in_inner tables t block item negated span fit = selected_inner Eq t block item tables (sym (fits_in schema tables t block item negated span) ∙ fit)
 
-  scalar_inner : (tables : List (List ℕ)) (op : Op) (left : Term) (block : Block) (item : Term) (span : Span) → cond_fits schema tables (c.Scalar op left block item span) ≡ true →
+  pub scalar_inner : (tables : List (List ℕ)) (op : Op) (left : Term) (block : Block) (item : Term) (span : Span) → cond_fits schema tables (c.Scalar op left block item span) ≡ true →
       cond_fits schema (inner tables block) block.cond ≡ true
   scalar_inner tables op left block item span fit = selected_inner op left block item tables (sym (fits_scalar schema tables op left block item span) ∙ fit)
 

@@ -15,3 +15,4 @@ mod Truthful
 mod Numbered
 mod Alike
 mod FittingParts
+mod FittingSubqueries
