@@ -1,21 +1,20 @@
 -- What fits with a condition: its conjuncts, the condition with a predicate replaced, and the conditions of its
 -- subqueries at their tables.
-use Rattle.std.proofs.Common.{◌≡◌, ◌∙◌, sym, ap, ap₂, refl, subst, ℕ, zero, suc, ◌-◌, Bool, true, false, ◌&&◌, not, List, [], ◌∷◌, ◌++◌, length, map, nat_le, nat_lt, if◌then◌else◌}
+use Rattle.std.proofs.Common.{◌≡◌, ◌∙◌, sym, ap, refl, subst, ℕ, zero, suc, ◌-◌, Bool, true, false, ◌&&◌, List, [], ◌∷◌, ◌++◌, length, map, nat_le, nat_lt, if◌then◌else◌}
 use Rattle.std.proofs.lemmas.List.Folds.{list_all-append}
-use Rattle.std.specs.List.{list_all, filter, flat_map}
+use Rattle.std.specs.List.{list_all, flat_map}
 use Rattle.lint_base.specs.declared.place.Span.{Span}
 use Rattle.lint_tables.specs.declared.op.Op.{Op}
 use Rattle.lint_tables.specs.declared.op.Op.TheVariants.{Eq}
-use Rattle.lint_core.specs.declared.condition.Block.{Block, out-Block, roll-Block, map-Block}
+use Rattle.lint_core.specs.declared.condition.Block.{Block, roll-Block}
 use Rattle.lint_core.specs.declared.condition.Cond.{Cond, ind-Cond, roll-Cond, map-Cond}
 use Rattle.lint_core.specs.declared.condition.Cond.TheVariants as c
-use Rattle.lint_core.specs.declared.condition.Cond.TheOpen.{Cond-F, Block-F}
+use Rattle.lint_core.specs.declared.condition.Cond.TheOpen.{Cond-F}
 use Rattle.lint_core.specs.declared.condition.Entry.{Entry}
 use Rattle.lint_core.specs.declared.condition.Term.{Term}
 use Rattle.lint_core.specs.declared.schema.Table.{Table}
 use Rattle.lint_core.specs.Conjuncts.{conjuncts}
-use Rattle.lint_core.specs.Fits.{cond_fits, tables_of, is_plain, term_kind, selected_fits, inner_tables}
-use Rattle.lint_core.specs.Fits as fitting
+use Rattle.lint_core.specs.Fits.{cond_fits, tables_of, is_plain, term_kind, selected_fits}
 use Rattle.lint_core.specs.Kind.{compares_both}
 use Rattle.lint_core.specs.Predicates.{first_or, predicates, with_replaced}
 use Rattle.lint_core.proofs.Parted.{conjuncts_true, conjuncts_false, conjuncts_and, conjuncts_or, conjuncts_not, conjuncts_compare, conjuncts_is_null, conjuncts_exists, conjuncts_in, conjuncts_scalar}

@@ -3,10 +3,10 @@ use Rattle.std.proofs.Common.{◌≡◌, ◌∙◌, sym, ap, refl, subst, ℕ, B
 use Rattle.std.specs.List.{list_all, flat_map}
 use Rattle.lint_base.specs.declared.place.Span.{Span}
 use Rattle.lint_tables.specs.declared.op.Op.{Op}
-use Rattle.lint_core.specs.declared.condition.Block.{Block, out-Block, roll-Block, map-Block}
+use Rattle.lint_core.specs.declared.condition.Block.{Block, out-Block, roll-Block}
 use Rattle.lint_core.specs.declared.condition.Cond.{Cond, ind-Cond, roll-Cond, map-Cond}
 use Rattle.lint_core.specs.declared.condition.Cond.TheVariants as c
-use Rattle.lint_core.specs.declared.condition.Cond.TheOpen.{Cond-F, Block-F}
+use Rattle.lint_core.specs.declared.condition.Cond.TheOpen.{Cond-F}
 use Rattle.lint_core.specs.declared.condition.Term.{Term}
 use Rattle.lint_core.specs.declared.schema.Table.{Table}
 use Rattle.lint_core.specs.Fits.{cond_fits, tables_of}

@@ -16,3 +16,5 @@ mod Numbered
 mod Alike
 mod FittingParts
 mod FittingSubqueries
+mod Shapes
+mod Agreeing
