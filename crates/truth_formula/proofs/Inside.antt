@@ -44,7 +44,7 @@ module _ (levels : List (List ℕ)) (own : List ℕ) (level entry : ℕ) where
 
 -- ---- levels of the same lengths
 
-same_lengths : (xs ys : List (List ℕ)) → map length xs ≡ map length ys → length xs ≡ length ys
+pub same_lengths : (xs ys : List (List ℕ)) → map length xs ≡ map length ys → length xs ≡ length ys
 same_lengths [] [] same = refl
 same_lengths [] (y ∷ ys) same = cc
 same_lengths (x ∷ xs) [] same = cc
@@ -52,7 +52,7 @@ same_lengths (x ∷ xs) (y ∷ ys) same =
     let rest : map length xs ≡ map length ys = cc in
     ap suc (same_lengths xs ys rest)
 
-is_there : (xs ys : List ℕ) (i : ℕ) → length xs ≡ length ys → is_some (slice_get xs i) ≡ is_some (slice_get ys i)
+pub is_there : (xs ys : List ℕ) (i : ℕ) → length xs ≡ length ys → is_some (slice_get xs i) ≡ is_some (slice_get ys i)
 is_there [] [] i same = refl
 is_there [] (y ∷ ys) i same = absurd (omega (arith, same))
 is_there (x ∷ xs) [] i same = absurd (omega (arith, same))
@@ -70,16 +70,16 @@ same_entries (x ∷ xs) (y ∷ ys) same (suc level) entry =
     let rest : map length xs ≡ map length ys = cc in
     same_entries xs ys rest level entry
 
-abbrev place_for : Option ℕ → Option ℕ → Option Place
+abbrev pub place_for : Option ℕ → Option ℕ → Option Place
 place_for table row = option_and_then (λ table. option_and_then (λ row. Some (place_in table row)) row) table
 
-place_there : (table row : Option ℕ) → is_some row ≡ is_some table → is_some (place_for table row) ≡ is_some table
+pub place_there : (table row : Option ℕ) → is_some row ≡ is_some table → is_some (place_for table row) ≡ is_some table
 place_there None row same = refl
 place_there (Some table) None same = same
 place_there (Some table) (Some row) same = refl
 
 -- the same row, where more rows follow
-more_rows : (variable : Option ℕ) (rows more : List Place) (place : Option Place) → is_some place ≡ is_some variable →
+pub more_rows : (variable : Option ℕ) (rows more : List Place) (place : Option Place) → is_some place ≡ is_some variable →
     option_and_then (slice_get rows) variable ≡ place → option_and_then (slice_get (rows ++ more)) variable ≡ place
 more_rows None rows more place same at = at
 more_rows (Some variable) rows more None same at = cc
@@ -93,7 +93,7 @@ place_at (table ∷ own) [] entry = elim (slice_get (table ∷ own) entry) as (�
 place_at (table ∷ own) (row ∷ inner) zero = refl
 place_at (table ∷ own) (row ∷ inner) (suc entry) = place_at own inner entry
 
-own_row : (rows : List Place) (own inner : List ℕ) (entry : ℕ) →
+pub own_row : (rows : List Place) (own inner : List ℕ) (entry : ℕ) →
     option_and_then (slice_get (rows ++ places_in own inner)) (slice_get (from_number (length rows) (length own)) entry) ≡ place_for (slice_get own entry) (slice_get inner entry)
 own_row rows own inner entry =
     elim (cases_lt entry (length own)) [
@@ -105,7 +105,7 @@ own_row rows own inner entry =
           ∙ sym (ap (λ table. place_for table (slice_get inner entry)) (slice_get_past own entry high))
     ]
 
-length_places : (own inner : List ℕ) → length inner ≡ length own → length (places_in own inner) ≡ length own
+pub length_places : (own inner : List ℕ) → length inner ≡ length own → length (places_in own inner) ≡ length own
 length_places [] inner same = refl
 length_places (table ∷ own) [] same = same
 length_places (table ∷ own) (row ∷ inner) same = ap suc (length_places own inner (omega (arith, same)))

@@ -1,5 +1,5 @@
 -- What the formulas of a condition of each kind are, when it fits, and which entries it names, by its parts.
-use Rattle.std.proofs.Common.{◌≡◌, ◌∙◌, ap, ℕ, Bool, ◌&&◌, ◌||◌, List, [], ◌∷◌, ◌++◌, map, length, nat_le, nat_lt}
+use Rattle.std.proofs.Common.{◌≡◌, ◌∙◌, ap, ℕ, Bool, true, ◌&&◌, ◌||◌, List, [], ◌∷◌, ◌++◌, map, length, nat_le, nat_lt}
 use Rattle.std.proofs.lemmas.List.Folds.{list_all-map}
 use Rattle.std.proofs.lemmas.Simd.{map-map}
 use Rattle.std.specs.List.{list_any, list_all}
@@ -111,12 +111,18 @@ module _ (schema : List Table) where
         && cond_fits schema (tables ++ tables_of block.entries ∷ []) block.cond;
   }
 
-  block_fit_is : (block : Block) → block_fitting block ≡ block_fit block
+  pub block_fit_is : (block : Block) → block_fitting block ≡ block_fit block
   block_fit_is block = fold_out-Block fits.Meaning fits.BlockMeaning (fits.fits_step schema) (fits.block_step schema) block
 
   module _ (tables : List (List ℕ)) where
     fits_out : (cond : Cond) (layer : Cond-F Cond Block) → out-Cond cond ≡ layer → cond_fits schema tables cond ≡ layer_fits layer tables
     fits_out cond layer is = ap (λ (m : fits.Meaning). m tables) (fold_out-Cond fits.Meaning fits.BlockMeaning (fits.fits_step schema) (fits.block_step schema) cond ∙ ap layer_fits is)
+
+    pub fits_true : cond_fits schema tables c.True ≡ true
+    fits_true = fits_out c.True _ c.outs-True
+
+    pub fits_false : cond_fits schema tables c.False ≡ true
+    fits_false = fits_out c.False _ c.outs-False
 
     pub fits_and : (parts : List Cond) → cond_fits schema tables (c.And parts) ≡ list_all (cond_fits schema tables) parts
     fits_and parts = fits_out (c.And parts) _ (c.outs-And parts) ∙ list_all-map (λ (m : fits.Meaning). m tables) (λ cond ts. cond_fits schema ts cond) parts

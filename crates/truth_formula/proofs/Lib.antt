@@ -14,3 +14,9 @@ mod Subqueries
 mod Truthful
 pub mod Atoms
 pub mod Bound
+mod Numbered
+mod Alike
+mod FittingParts
+mod FittingSubqueries
+mod Shapes
+mod Agreeing

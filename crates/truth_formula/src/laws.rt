@@ -1,17 +1,24 @@
 //! What the two formulas of a condition say. The functions do nothing: each contract is a law about the definitions
 //! in `specs/`.
-ghost use Rattle.std.specs.Prelude.{Ok, ◌≡◌, ℕ, true, suc, length, map, List, slice_get, option_and_then};
+ghost use Rattle.std.specs.Prelude.{Ok, ◌≡◌, ℕ, true, suc, length, map, List, slice_get, option_and_then, Bool};
 ghost use Rattle.lint_core.specs.declared.condition.Cond.{Cond as Condition};
 ghost use Rattle.lint_core.specs.declared.database.Database.{Database};
+ghost use Rattle.lint_core.specs.declared.database.Points.{Points};
 ghost use Rattle.lint_core.specs.declared.database.Truth.{Truth};
+ghost use Rattle.lint_core.specs.declared.database.Value.{Value};
+ghost use Rattle.lint_core.specs.declared.query.Query.{Query};
+ghost use Rattle.lint_core.specs.declared.query.Question.{Question};
 ghost use Rattle.lint_core.specs.declared.schema.Table.{Table};
+ghost use Rattle.lint_core.specs.Asked.{is_asked};
 ghost use Rattle.lint_core.specs.Condition.{truth, at_entry};
 ghost use Rattle.lint_core.specs.Database.{Place};
-ghost use Rattle.lint_core.specs.Fits.{cond_fits};
+ghost use Rattle.lint_core.specs.Fits.{cond_fits, query_fits};
 ghost use Rattle.lint_core.specs.Meets.{is_of_domains};
 ghost use Rattle.lint_core.specs.Naming.{names};
+ghost use Rattle.lint_core.specs.Question.{outcome, outcome_read};
 ghost use Rattle.lint_core.specs.Truth.{is_true, is_false};
 ghost use Rattle.sort_formula.specs.Holds.{holds};
+ghost use Rattle.sort_formula.specs.Loose.{by_formula};
 ghost use Rattle.sort_formula.specs.Sentences.{formula_fits};
 ghost use Rattle.sort_formula.specs.Sides.{Scope as Standing};
 ghost use Rattle.sort_formula.specs.Standpoint.{StandsFor};
@@ -48,4 +55,14 @@ pub fn formulas_fit()
         → ((entry : ℕ) → names entry cond ≡ true → option_and_then (slice_get outside) (at_entry scope.levels 0 entry) ≡ at_entry scope.tables 0 entry)
         → ((level entry : ℕ) → option_and_then (slice_get outside) (at_entry scope.levels (suc level) entry) ≡ at_entry scope.tables (suc level) entry)
         → formula_fits schema (is_false_formula schema cond scope) outside ≡ true }
+{}
+
+/// In a database of the domains the loose reading of an asked question agrees with the exact one wherever the truths
+/// that the question's clause needs exist.
+pub fn loose_reading_agrees()
+    ensures { (schema : List Table) (db : Database) → is_of_domains schema db ≡ true
+        → (query : Query) → query_fits schema query ≡ true
+        → (question : Question) → is_asked schema query question ≡ true
+        → (given : Value) (points : Points) (fails : Bool) → outcome db query question given points ≡ Ok fails
+        → outcome_read db query (by_formula schema db) question given points ≡ Ok fails }
 {}
