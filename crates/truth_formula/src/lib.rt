@@ -6,8 +6,7 @@
 //! question by the formulas where they refute it by the truths.
 #![tactic(auto)]
 
-mod laws;
+mod levels;
 mod scope;
 
-pub use laws::{formulas_fit, formulas_say_truth, loose_reading_agrees};
 pub use scope::Scope;
