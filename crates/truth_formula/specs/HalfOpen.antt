@@ -1,7 +1,8 @@
 -- Formulas whose bounds lie in an interval that negation maps to itself, since it takes m to -m-1: from -n on, and
 -- below n. Nothing here has to be believed: no public contract says it.
-use Rattle.std.specs.Prelude.{ℕ, ◌^◌, ℤ, pos, neg_ℤ, int_le, int_lt, Bool, true, ◌&&◌}
+use Rattle.std.specs.Prelude.{◌^◌, ℤ, pos, neg_ℤ, int_lt, Bool, true, ◌&&◌}
 use Rattle.std.specs.List.{list_all}
+use Rattle.lint_core.specs.Domain.{int_le}
 use Rattle.sort_formula.specs.declared.formula.Atom.{Atom}
 use Rattle.sort_formula.specs.declared.formula.Atom.TheVariants as atom
 use Rattle.sort_formula.specs.declared.formula.Formula.{Formula, fold-Formula}

@@ -8,5 +8,8 @@
 
 mod levels;
 mod scope;
+mod sides;
+mod translation;
 
 pub use scope::Scope;
+pub use translation::{is_false, is_true};
