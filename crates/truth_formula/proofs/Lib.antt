@@ -1,2 +1,3 @@
 mod Standing
 mod Nearness
+mod Translated

@@ -1,10 +1,12 @@
 -- The bounds of a formula of each kind, of its negation, and what follows of them.
-use Rattle.std.proofs.Common.{◌≡◌, ◌∙◌, ap, ap₂, refl, subst, sym, ℕ, ◌^◌, ℤ, pos, neg_ℤ, ◌-ℤ◌, Bool, true, ◌&&◌, List, [], ◌∷◌, ◌++◌, map, arith}
+use Rattle.std.proofs.Common.{◌≡◌, ◌∙◌, ap, ap₂, refl, subst, sym, ℕ, ◌^◌, ℤ, pos, neg_ℤ, ◌+ℤ◌, ◌-ℤ◌, ◌≤ℤ◌, Bool, true, ◌&&◌, List, [], ◌∷◌, ◌++◌, map, arith}
 use Rattle.std.proofs.lemmas.Bool.{and_parts}
 use Rattle.std.proofs.lemmas.Int.{ints}
 use Rattle.std.proofs.lemmas.List.{append_assoc}
 use Rattle.std.proofs.lemmas.List.Folds.{list_all-map}
 use Rattle.std.specs.List.{list_all}
+use Rattle.std.specs.Prelude.{int_lt}
+use Rattle.lint_core.specs.Domain.{int_le}
 use Rattle.sort_formula.proofs.Holding.{negated_of_atom, negated_and, negated_or, negated_exists, negated_forall}
 use Rattle.sort_formula.specs.declared.formula.Side.{Side}
 use Rattle.sort_formula.specs.declared.formula.Side.TheVariants as side
@@ -16,6 +18,15 @@ use Rattle.sort_formula.specs.declared.formula.Formula.TheOpen.{Formula-F}
 use Rattle.sort_formula.specs.Negated.{negated, negated_atom, null_of, fails}
 use Rattle.truth_formula.specs.Bounds.{is_within, within_step, atom_is_within}
 use Rattle.truth_formula.specs.HalfOpen.{is_near, is_near_atom, half_open_step, is_half_open}
+
+at_least : (least most : ℤ) → least ≤ℤ most → int_le least most ≡ true
+at_least least most low = grind (arith, ints)
+
+less_than : (most end : ℤ) → (most +ℤ pos 1) ≤ℤ end → int_lt most end ≡ true
+less_than most end high = grind (arith, ints)
+
+pub near_between : (most : ℤ) → neg_ℤ (pos (2 ^ 65)) ≤ℤ most → (most +ℤ pos 1) ≤ℤ pos (2 ^ 65) → is_near most ≡ true
+near_between most low high = ap₂ (λ x y. x && y) (at_least (neg_ℤ (pos (2 ^ 65))) most low) (less_than most (pos (2 ^ 65)) high)
 
 pub near_atom : (a : Atom) → is_half_open (f.Atom a) ≡ is_near_atom a
 near_atom a = ap is_half_open (sym (f.rolls-Atom a)) ∙ fold-roll-Formula Bool half_open_step (Formula-F.Atom a)
