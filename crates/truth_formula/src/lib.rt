@@ -9,6 +9,8 @@
 mod levels;
 mod scope;
 mod sides;
+#[cfg(test)]
+mod tests;
 mod translation;
 
 pub use scope::Scope;

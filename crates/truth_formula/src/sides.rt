@@ -206,7 +206,8 @@ pub(crate) fn null_test(
         entry,
         column,
         ..
-    } = term else {
+    } = term
+    else {
         return constant(alloc, matches!(term, Term::Null) == null);
     };
     let row = levels.variable_at(*level, *entry);

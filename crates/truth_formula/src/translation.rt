@@ -4,7 +4,7 @@ ghost use Rattle.std.specs.List.{list_all, sum_by};
 ghost use Rattle.lint_core.specs.Fits.{tables_of};
 ghost use Rattle.lint_tables.specs.Operators.{negation};
 ghost use Rattle.sort_formula.specs.Negated.{negated};
-ghost use Rattle.sort_formula.specs.Translation.{exists_both, inner_true, is_false_formula, is_true_formula, translation};
+ghost use Rattle.sort_formula.specs.Translation.{exists_both, is_false_formula, is_true_formula, translation};
 ghost use Rattle.truth_formula.specs.Bounds.{is_within};
 ghost use Rattle.truth_formula.specs.HalfOpen.{is_half_open};
 ghost use Rattle.truth_formula.specs.Levels.{scope_of};
@@ -86,25 +86,7 @@ fn op_if(op: Op, holds: bool) -> Op
     if holds { op } else { op.negated() }
 }
 
-/// That the condition of a subquery is true, inside.
-#[cycle(translate)]
-fn inner(
-    alloc: Global,
-    tables: &[Table],
-    levels: &Levels,
-    block: &Block,
-) -> Result<Formula, NoMemory>
-    requires { (scope_of levels.now).depth + count_block block.now < 2 ^ 32 }
-    ensures formula { IfOk result (λ made. made ≡ inner_true tables.now (block_translation tables.now block.now) (scope_of levels.now)) }
-    ensures bounds { IfOk result (λ made. is_half_open made ≡ true) }
-{
-    let inside = Levels::Inside {
-        entries: block.entries.as_slice(),
-        outer: &*levels,
-    };
-    translate(alloc, tables, &inside, &block.cond, true)
-}
-
+/// Some row of the subquery's is there, or none.
 #[cycle(translate)]
 fn exists(
     alloc: Global,
@@ -117,11 +99,16 @@ fn exists(
     ensures formula { IfOk result (λ made. made ≡ chosen holds (exists_both tables.now (block_translation tables.now block.now) (scope_of levels.now))) }
     ensures bounds { IfOk result (λ made. is_half_open made ≡ true) }
 {
-    let mut body = inner(alloc, tables, levels, block)?;
+    let entries = block.entries.as_slice();
+    let inside = Levels::Inside {
+        entries,
+        outer: &*levels,
+    };
+    let mut body = translate(alloc, tables, &inside, &block.cond, true)?;
     if !holds {
         body = negated(alloc, &body)?;
     }
-    quantified(alloc, block.entries.as_slice(), body, holds)
+    quantified(alloc, entries, body, holds)
 }
 
 /// Some row of the subquery's compares so.
@@ -248,14 +235,27 @@ fn translate(
             block,
             item,
             ..
-        } => some_row(alloc, tables, levels, op_if(*op, holds), left, block.get(), item),
+        } => some_row(
+            alloc,
+            tables,
+            levels,
+            op_if(*op, holds),
+            left,
+            block.get(),
+            item,
+        ),
     }
 }
 
 /// The formula that holds exactly where the condition is true, in databases of the schema's domains, at bindings
 /// where it has a truth. A condition is neither true nor false where it is unknown. `NoMemory` where there is no
 /// memory for all of it.
-pub fn is_true(alloc: Global, schema: &Schema, cond: &Cond, scope: &Scope) -> Result<Formula, NoMemory>
+pub fn is_true(
+    alloc: Global,
+    schema: &Schema,
+    cond: &Cond,
+    scope: &Scope,
+) -> Result<Formula, NoMemory>
     requires { CanStand schema.now cond.now scope.now }
     ensures formula { IfOk result (λ f. f ≡ is_true_formula schema.now cond.now (standing scope.now)) }
     ensures bounds { IfOk result (λ f. is_within (2 ^ 65) f ≡ true) }
@@ -266,7 +266,12 @@ pub fn is_true(alloc: Global, schema: &Schema, cond: &Cond, scope: &Scope) -> Re
 
 /// The formula that holds exactly where the condition is false, in databases of the schema's domains, at bindings
 /// where it has a truth. `NoMemory` where there is no memory for all of it.
-pub fn is_false(alloc: Global, schema: &Schema, cond: &Cond, scope: &Scope) -> Result<Formula, NoMemory>
+pub fn is_false(
+    alloc: Global,
+    schema: &Schema,
+    cond: &Cond,
+    scope: &Scope,
+) -> Result<Formula, NoMemory>
     requires { CanStand schema.now cond.now scope.now }
     ensures formula { IfOk result (λ f. f ≡ is_false_formula schema.now cond.now (standing scope.now)) }
     ensures bounds { IfOk result (λ f. is_within (2 ^ 65) f ≡ true) }
