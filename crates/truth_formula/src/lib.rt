@@ -9,8 +9,6 @@
 mod levels;
 mod scope;
 mod sides;
-#[cfg(test)]
-mod tests;
 mod translation;
 
 pub use scope::Scope;
