@@ -20,3 +20,6 @@ mod FittingParts
 mod FittingSubqueries
 mod Shapes
 mod Agreeing
+mod Standing
+mod Nearness
+mod Translated
