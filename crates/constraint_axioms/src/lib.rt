@@ -5,7 +5,14 @@
 #![tactic(auto)]
 
 mod axiom;
+mod comparing;
+mod condition;
 mod laws;
+mod listing;
+mod reference;
+mod sentences;
+mod uniqueness;
 
 pub use axiom::Axiom;
 pub use laws::axioms_are_the_constraints;
+pub use listing::axioms;
