@@ -1,7 +1,7 @@
 pub mod Lists
 pub mod Holding
 mod Standing
-mod Fitting
+pub mod Fitting
 mod Below
 pub mod Cells
 pub mod Complements
