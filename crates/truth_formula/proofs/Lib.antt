@@ -6,3 +6,6 @@ pub mod Fitting
 pub mod Fits
 pub mod Atoms
 pub mod Bound
+mod Standing
+mod Nearness
+mod Translated

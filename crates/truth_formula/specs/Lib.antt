@@ -1,2 +1,5 @@
 pub mod Scopes
 pub mod Bounds
+pub mod Levels
+pub mod HalfOpen
+pub mod Parts

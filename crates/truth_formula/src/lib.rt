@@ -6,8 +6,12 @@
 //! question by the formulas where they refute it by the truths.
 #![tactic(auto)]
 
-mod laws;
+mod levels;
 mod scope;
+mod sides;
+#[cfg(test)]
+mod tests;
+mod translation;
 
-pub use laws::{formulas_fit, formulas_say_truth, loose_reading_agrees};
 pub use scope::Scope;
+pub use translation::{is_false, is_true};

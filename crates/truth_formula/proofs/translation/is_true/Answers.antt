@@ -1,0 +1,24 @@
+use Rattle.std.proofs.Common.{◌≡◌, ◌∙◌, ◌^◌, ap₂, true, false}
+use Rattle.std.proofs.lemmas.Result.{IfOk-weaker}
+use Rattle.sort_formula.specs.Translation.{is_true_formula, translation}
+use Rattle.truth_formula.specs.declared.levels.Levels.TheVariants as levels
+use Rattle.truth_formula.specs.Bounds.{is_within}
+use Rattle.truth_formula.specs.HalfOpen.{is_half_open}
+use Rattle.truth_formula.specs.Levels.{scope_of}
+use Rattle.truth_formula.specs.Parts.{chosen}
+use Rattle.truth_formula.specs.Scopes.{standing}
+use Rattle.truth_formula.proofs.Nearness.{near_within}
+use Rattle.truth_formula.proofs.Standing.{scope_given}
+use Rattle.truth_formula.proofs.translation.is_true.Goals as goal
+
+pub returns-clause-formula : goal.returns-clause-formula
+returns-clause-formula c =
+    IfOk-weaker c.translate.result
+    (λ made. made ≡ chosen true (translation c.as_slice.result.now c.args.cond.now (scope_of (levels.Given c.args.scope))))
+    (λ made. made ≡ is_true_formula c.args.schema.now c.args.cond.now (standing c.args.scope.now))
+    (λ made is. is ∙ ap₂ (λ tables scope. chosen true (translation tables c.args.cond.now scope)) (c.as_slice.ensures ∙ c.tables.ensures.tables) (scope_given c.args.scope))
+    c.translate.ensures.formula
+
+pub returns-clause-bounds : goal.returns-clause-bounds
+returns-clause-bounds c =
+    IfOk-weaker c.translate.result (λ made. is_half_open made ≡ true) (λ made. is_within (2 ^ 65) made ≡ true) near_within c.translate.ensures.bounds
