@@ -1,5 +1,5 @@
 -- The axioms are sentences.
-use Rattle.std.proofs.Common.{◌≡◌, ◌∙◌, refl, sym, ap, ap₂, subst, ℕ, suc, pos, neg_ℤ, Bool, true, false, ◌&&◌, List, [], ◌∷◌, ◌++◌, length, map}
+use Rattle.std.proofs.Common.{◌≡◌, ◌∙◌, refl, ap, ap₂, ℕ, pos, neg_ℤ, Bool, true, false, ◌&&◌, List, [], ◌∷◌, ◌++◌, map}
 use Rattle.std.proofs.lemmas.List.Folds.{list_all-map, list_all-append}
 use Rattle.std.proofs.lemmas.Bool.{eq-eqb}
 use Rattle.std.specs.List.{list_all, flat_map, zip}
@@ -11,9 +11,8 @@ use Rattle.sort_formula.specs.declared.formula.Atom.TheVariants as atom
 use Rattle.sort_formula.specs.declared.formula.Formula.{Formula, fold_out-Formula, map-Formula, out-Formula}
 use Rattle.sort_formula.specs.declared.formula.Formula.TheVariants as f
 use Rattle.sort_formula.specs.declared.formula.Formula.TheOpen.{Formula-F}
-use Rattle.sort_formula.specs.declared.formula.Side.{Side}
 use Rattle.sort_formula.specs.declared.formula.Side.TheVariants as side
-use Rattle.sort_formula.specs.Axioms.{different_cells, equal_cells, foreign_sentence, is_text_column, key_axiom, key_column, not_null_axiom, pair_equal}
+use Rattle.sort_formula.specs.Axioms.{different_cells, equal_cells, foreign_sentence, is_text_column, key_axiom, key_column, pair_equal}
 use Rattle.sort_formula.specs.Sentences.{Meaning, layer_is, atom_is_bound, is_bound, is_sentence}
 
 -- ---- when a formula of each kind is bound, by its parts

@@ -1,5 +1,5 @@
 -- A CHECK can stand at the row of its table, and its axiom is a sentence.
-use Rattle.std.proofs.Common.{◌≡◌, ◌∙◌, refl, sym, ap, subst, ℕ, zero, suc, ◌+◌, ◌^◌, ◌<◌, Bool, true, false, ◌&&◌, List, [], ◌∷◌, map, length, arith}
+use Rattle.std.proofs.Common.{◌≡◌, ◌∙◌, refl, sym, ap, subst, ℕ, zero, suc, ◌+◌, ◌^◌, ◌<◌, Bool, true, false, ◌&&◌, List, [], ◌∷◌, map, arith}
 use Rattle.std.specs.List.{list_all}
 use Rattle.std.specs.Prelude.{slice_get, option_and_then, nat_le, sum}
 use Rattle.lint_core.specs.declared.condition.Block.{Block, fold-Block}
@@ -11,7 +11,7 @@ use Rattle.lint_core.specs.Fits.{cond_fits, check_fits, count_conditions, is_fla
 use Rattle.sort_formula.specs.declared.formula.Formula.{Formula}
 use Rattle.sort_formula.specs.declared.formula.Formula.TheVariants as f
 use Rattle.sort_formula.specs.Negated.{negated}
-use Rattle.sort_formula.specs.Sentences.{formula_fits, is_bound, is_sentence}
+use Rattle.sort_formula.specs.Sentences.{formula_fits, is_sentence}
 use Rattle.sort_formula.specs.Sides.{Scope}
 use Rattle.sort_formula.specs.Translation.{is_false_formula}
 use Rattle.sort_formula.proofs.Lists.{both_left, both_right}

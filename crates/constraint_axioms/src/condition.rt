@@ -1,17 +1,19 @@
 //! CHECKs as sentences.
-ghost use Rattle.std.specs.Prelude.{◌≡◌, ◌∷◌, [], true, IfOk};
+ghost use Rattle.std.specs.Prelude.{◌≡◌, ◌∷◌, ◌^◌, [], true, IfOk};
 ghost use Rattle.lint_core.specs.Fits.{check_fits};
 ghost use Rattle.sort_formula.specs.Axioms.{plain};
 ghost use Rattle.sort_formula.specs.Negated.{negated};
 ghost use Rattle.sort_formula.specs.Translation.{is_false_formula};
 ghost use Rattle.sort_formula.specs.declared.formula.Formula.TheVariants as f;
 ghost use Rattle.constraint_axioms.specs.Spoken.{spoken};
+ghost use Rattle.truth_formula.specs.Bounds.{is_within};
+ghost use Rattle.truth_formula.specs.Scopes.{CanStand, standing};
 
 use crate::axiom::Axiom;
 use crate::sentences::{for_all, plain};
 use lint_base::{Items, NoMemory};
 use lint_core::{Cond, Schema};
-use sort_formula::negate;
+use sort_formula::{Formula, negate};
 use std::alloc::Global;
 use truth_formula::{Scope, formulas_fit, is_false};
 
@@ -36,6 +38,15 @@ fn row_scope(alloc: Global, number: u32) -> Result<Scope, NoMemory>
     })
 }
 
+/// The CHECK is not false there.
+fn is_kept(alloc: Global, schema: &Schema, check: &Cond, scope: &Scope) -> Result<Formula, NoMemory>
+    requires { CanStand schema.now check.now scope.now }
+    ensures formula { IfOk result (λ formula. formula ≡ negated (is_false_formula schema.now check.now (standing scope.now))) }
+    ensures bounds { IfOk result (λ _. is_within (2 ^ 65) (is_false_formula schema.now check.now (standing scope.now)) ≡ true) }
+{
+    negate(alloc, &is_false(alloc, schema, check, scope)?)
+}
+
 /// The CHECK is false at no row of the table.
 pub(crate) fn check_axiom(
     alloc: Global,
@@ -47,6 +58,7 @@ pub(crate) fn check_axiom(
     ensures { IfOk result (λ stated. spoken stated ≡ plain (f.Forall number (negated (is_false_formula schema.now check.now (record { levels = (0 ∷ []) ∷ []; tables = (number ∷ []) ∷ []; depth = 1 }))))) }
 {
     formulas_fit();
-    let violated = is_false(alloc, schema, check, &row_scope(alloc, number)?)?;
-    Ok(plain(for_all(alloc, number, negate(alloc, &violated)?)?))
+    let scope = row_scope(alloc, number)?;
+    let kept = is_kept(alloc, schema, check, &scope)?;
+    Ok(plain(for_all(alloc, number, kept)?))
 }

@@ -108,3 +108,69 @@ pub fn axioms(alloc: Global, schema: &Schema) -> Result<Vec<Axiom>, NoMemory>
     }
     Ok(axioms)
 }
+
+#[cfg(test)]
+mod tests {
+    use super::*;
+    use lint_base::{Items, Str};
+    use lint_core::{Column, Domain, ForeignKey, Key, Unit};
+    use std::test::Fail;
+
+    fn first(alloc: Global) -> Result<Items<u32>, NoMemory> {
+        let mut columns = Items::new(alloc);
+        columns.push(0)?;
+        Ok(columns)
+    }
+
+    fn table_of(alloc: Global, not_null: bool) -> Result<Table, NoMemory> {
+        let mut columns = Items::new(alloc);
+        columns.push(Column {
+            name: Str::from_str(alloc, "a")?,
+            domain: Domain::Number {
+                least: -32768,
+                greatest: 32767,
+                unit: Unit::Whole,
+            },
+            not_null,
+        })?;
+        Ok(Table {
+            name: Str::from_str(alloc, "t")?,
+            columns,
+            keys: Items::new(alloc),
+            checks: Items::new(alloc),
+            foreign: Items::new(alloc),
+        })
+    }
+
+    fn tables(alloc: Global) -> Result<Items<Table>, NoMemory> {
+        let mut target = table_of(alloc, true)?;
+        target.keys.push(Key {
+            columns: first(alloc)?,
+        })?;
+        let mut own = table_of(alloc, false)?;
+        own.foreign.push(ForeignKey {
+            columns: first(alloc)?,
+            target: 0,
+            target_columns: first(alloc)?,
+        })?;
+        let mut tables = Items::new(alloc);
+        tables.push(target)?;
+        tables.push(own)?;
+        Ok(tables)
+    }
+
+    #[test]
+    fn lists_a_foreign_key_last(rt: HostRuntime) -> Result<(), Fail> {
+        let alloc = rt.alloc();
+        let schema = Schema::new(tables(alloc)?).ok_or("a schema")?;
+        let list = axioms(alloc, &schema)?;
+        assert_eq!(rt; list.len(), 3);
+        let mut names = Vec::new(alloc);
+        for stated in &list {
+            names.push(stated.key)?;
+        }
+        let last = KeyName { table: 1, index: 0 };
+        assert_eq!(rt; names.as_slice(), [None, None, Some(last)].as_slice());
+        Ok(())
+    }
+}
