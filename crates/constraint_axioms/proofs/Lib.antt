@@ -5,3 +5,6 @@ mod Keys
 mod Checks
 mod Foreign
 mod Constraints
+mod Bounds
+mod Violations
+mod Pairs

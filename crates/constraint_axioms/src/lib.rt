@@ -6,7 +6,14 @@
 #![tactic(auto)]
 
 mod axiom;
+mod comparing;
+mod condition;
 mod laws;
+mod listing;
+mod reference;
+mod sentences;
+mod uniqueness;
 
 pub use axiom::Axiom;
 pub use laws::{accepted_sentence_fails, axioms_are_the_constraints};
+pub use listing::axioms;
