@@ -31,7 +31,7 @@ use Rattle.lint_core.specs.Condition.{truth, is_true_at}
 use Rattle.lint_tables.specs.Operators.{is_related}
 use Rattle.lint_core.specs.Truth.{and_of}
 use Rattle.lint_core.specs.Meets.{values_meet, rows_meet, tables_meet, no_nulls, all_constraints_met}
-use Rattle.lint_core.specs.Answer.{IsRefuted}
+use Rattle.lint_engine.specs.Answer.{IsRefuted}
 use Rattle.lint_core.proofs.Conditions.{truth_compare, truth_and, known}
 use Rattle.lint_engine.specs.declared.comparison.Comparison.{Comparison}
 use Rattle.lint_engine.specs.Plan.{is_named, number_of, cells_of, one_row_in}
