@@ -121,7 +121,6 @@ module _ (schema : List Table) (branch : Branch) (known : is_schema schema ≡ t
       absurd (zero_cell row column (sym to ∙ low_right row column (domain_at schema branch row column) b y_is))
   guarded (edge.High row column) y a b x_is y_is from to same negative =
       absurd (zero_cell row column (sym from ∙ high_left row column (domain_at schema branch row column) a x_is))
-
   guarded (edge.Same fact column) y a b x_is y_is from to same negative = absurd (same_from fact column a x_is from)
   guarded (edge.Back fact column) y a b x_is y_is from to same negative = absurd (back_from fact column a x_is from)
   guarded x (edge.Same fact column) a b x_is y_is from to same negative = absurd (same_to fact column b y_is to)
