@@ -1,4 +1,4 @@
--- In a database that meets the schema each value lies in the domain of its column.
+-- In a database of the schema's domains each value lies in the domain of its column.
 use Rattle.std.proofs.Common.{◌≡◌, ◌∙◌, sym, ap, ℕ, zero, suc, Bool, true, List, [], ◌∷◌}
 use Rattle.std.proofs.lemmas.Bool.{and_parts}
 use Rattle.std.proofs.lemmas.Option.{option_and_then_some, same_Some}
@@ -11,10 +11,10 @@ use Rattle.lint_core.specs.declared.schema.Column.{Column}
 use Rattle.lint_core.specs.declared.schema.Table.{Table}
 use Rattle.lint_core.specs.Database.{Place, value_at, rows_of}
 use Rattle.lint_core.specs.Domain.{is_in_domain}
-use Rattle.lint_core.specs.Meets.{values_meet, rows_meet, tables_meet, all_constraints_met, meets}
+use Rattle.lint_core.specs.Meets.{values_meet, rows_meet, tables_meet, is_of_domains}
 
 -- what all elements pass, each does
-passes_at : {A : Type 0} (p : A → Bool) (xs : List A) (i : ℕ) (x : A) → list_all p xs ≡ true → slice_get xs i ≡ Some x → p x ≡ true
+pub passes_at : {A : Type 0} (p : A → Bool) (xs : List A) (i : ℕ) (x : A) → list_all p xs ≡ true → slice_get xs i ≡ Some x → p x ≡ true
 passes_at p [] i x all at = cc
 passes_at p (y ∷ ys) zero x all at = ap p (sym (same_Some y x at)) ∙ (and_parts (p y) (list_all p ys) all).0
 passes_at p (y ∷ ys) (suc i) x all at = passes_at p ys i x (and_parts (p y) (list_all p ys) all).1 at
@@ -38,11 +38,10 @@ table_rows_meet (t' ∷ ts) (r ∷ rs) zero t all at =
 table_rows_meet (t' ∷ ts) (r ∷ rs) (suc i) t all at = table_rows_meet ts rs i t (and_parts (rows_meet t' r) (tables_meet ts rs) all).1 at
 
 -- the value of a column in a row that is there
-pub inside : (schema : List Table) (db : Database) → meets schema db ≡ true →
+pub inside : (schema : List Table) (db : Database) → is_of_domains schema db ≡ true →
     (place : Place) (column : ℕ) (v : Value) (t : Table) (c : Column) → value_at db place column ≡ Some v →
     slice_get schema place.table ≡ Some t → slice_get t.columns column ≡ Some c → is_in_domain c.domain v ≡ true
-inside schema db all place column v t c value table at =
-    let domains = (and_parts (tables_meet schema db.tables) (all_constraints_met db 0 schema) all).0 in
+inside schema db domains place column v t c value table at =
     option_and_then_some (λ (row : Row). slice_get row.values column) (slice_get (rows_of db place.table) place.row) v value
     (λ row here stands.
     value_inside t.columns row.values column c v

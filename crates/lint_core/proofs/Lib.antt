@@ -1,5 +1,5 @@
-mod Lists
-mod Inside
+pub mod Lists
+pub mod Inside
 mod NamedEntries
 mod Counting
 mod Alone

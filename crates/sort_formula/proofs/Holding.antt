@@ -18,7 +18,7 @@ module _ (db : Database) where
   abbrev pub layer_holds : Formula-F Formula → Meaning db
   layer_holds layer = formula_step db (map-Formula Formula (Meaning db) (holds db) layer)
 
-  holds_out : (g : Formula) (rows : List Place) → holds db g rows ≡ layer_holds (out-Formula g) rows
+  pub holds_out : (g : Formula) (rows : List Place) → holds db g rows ≡ layer_holds (out-Formula g) rows
   holds_out g rows = ap (λ (m : Meaning db). m rows) (fold_out-Formula (Meaning db) (formula_step db) g)
 
   pub holds_atom : (a : Atom) (rows : List Place) → holds db (f.Atom a) rows ≡ atom_holds db rows a

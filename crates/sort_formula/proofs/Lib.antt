@@ -7,3 +7,9 @@ mod Cells
 mod Complements
 mod Renaming
 mod Translated
+mod Named
+mod Realized
+mod Linked
+mod RingSums
+mod RingEdges
+mod StepsRealized

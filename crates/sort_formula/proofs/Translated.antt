@@ -1,5 +1,5 @@
 -- What the formulas of a comparison are.
-use Rattle.std.proofs.Common.{◌≡◌, ◌∙◌, ap, refl, pos, neg_ℤ, List, [], ◌∷◌}
+use Rattle.std.proofs.Common.{◌≡◌, ◌∙◌, ap, List}
 use Rattle.lint_base.specs.declared.place.Span.{Span}
 use Rattle.lint_tables.specs.declared.op.Op.{Op}
 use Rattle.lint_core.specs.declared.condition.Term.{Term}
@@ -9,7 +9,7 @@ use Rattle.lint_core.specs.declared.condition.Cond.TheOpen.{Cond-F}
 use Rattle.lint_core.specs.declared.condition.Block.{Block, fold-Block}
 use Rattle.lint_core.specs.declared.schema.Table.{Table}
 use Rattle.sort_formula.specs.Sides.{Scope, everything, nothing, compare_formula, compare_false_formula}
-use Rattle.sort_formula.specs.Translation.{Both, Meaning, BlockMeaning, translation, translation_step, block_step}
+use Rattle.sort_formula.specs.Translation.{Meaning, BlockMeaning, translation, translation_step, block_step}
 
 module _ (schema : List Table) where
   abbrev block_translation : Block → BlockMeaning

@@ -1,6 +1,6 @@
 -- The constraints of a schema as sentences (ISO/IEC 9075:1992, 4.10): table by table NOT NULL, keys, CHECKs and
 -- foreign keys. A database of the domains meets the schema exactly where all of them hold.
-use Rattle.std.specs.Prelude.{ℕ, suc, ◌&&◌, ℤ, pos, neg_ℤ, Bool, List, [], ◌∷◌, ◌++◌, map, Option, Some, None, slice_get, if◌then◌else◌, option_and_then}
+use Rattle.std.specs.Prelude.{ℕ, suc, ℤ, pos, neg_ℤ, Bool, List, [], ◌∷◌, ◌++◌, map, Option, Some, None, if◌then◌else◌}
 use Rattle.std.specs.List.{flat_map, zip}
 use Rattle.std.specs.Option.{option_map_or}
 use Rattle.lint_core.specs.declared.condition.Cond.{Cond}

@@ -1,7 +1,7 @@
 -- Chains of equal texts, and paths between rows that are one. An edge of a chain says that its two sides are the
 -- same text (or are both NULL): a fact that says so, from its left side to its right or back, or the cells of one
 -- column in two rows of which a fact says that they are one.
-use Rattle.std.specs.Prelude.{ℕ, Bool, true, false, ◌&&◌, ◌||◌, not, nat_eq, List, [], ◌∷◌, Option, Some, None, option_and_then, if◌then◌else◌}
+use Rattle.std.specs.Prelude.{ℕ, Bool, false, ◌&&◌, ◌||◌, not, nat_eq, List, [], ◌∷◌, Option, Some, None, option_and_then, if◌then◌else◌}
 use Rattle.std.specs.Option.{option_map_or}
 use Rattle.lint_core.specs.declared.certificate.SameEdge.{SameEdge}
 use Rattle.lint_core.specs.declared.certificate.TextEdge.{TextEdge}

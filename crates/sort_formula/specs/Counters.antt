@@ -1,7 +1,7 @@
 -- The counter sentence of a question: it holds in a database exactly where some points refute the question (in
 -- databases of the domains in which the scalar subqueries asked of before it give at most one row).
-use Rattle.std.specs.Prelude.{ℕ, ◌+◌, ◌-◌, ℤ, pos, neg_ℤ, ◌-ℤ◌, Bool, true, false, List, [], ◌∷◌, ◌++◌, length, map, Option, slice_get, unwrap_or, if◌then◌else◌, insert, remove}
-use Rattle.std.specs.List.{flat_map, filter, zip}
+use Rattle.std.specs.Prelude.{ℕ, ◌+◌, ◌-◌, ℤ, pos, neg_ℤ, ◌-ℤ◌, List, [], ◌∷◌, ◌++◌, length, map, slice_get, unwrap_or, if◌then◌else◌, insert, remove}
+use Rattle.std.specs.List.{filter, zip}
 use Rattle.std.specs.Option.{option_map_or}
 use Rattle.lint_core.specs.declared.condition.Cond.{Cond}
 use Rattle.lint_core.specs.declared.condition.Cond.TheVariants as cond
@@ -15,10 +15,9 @@ use Rattle.lint_core.specs.declared.query.Question.{Question}
 use Rattle.lint_core.specs.declared.query.Question.TheVariants.{OneRow, Empty, NeedlessDistinct, Constant, Duplicate, NeedlessJoin, Implied, Impossible, SameRow, NullInNotIn}
 use Rattle.lint_core.specs.declared.schema.Table.{Table}
 use Rattle.lint_core.specs.Asked.{main_condition, main_entries, scalars_of, not_ins_of, conjuncts_with, conjuncts_without}
-use Rattle.lint_core.specs.Fits.{main_tables, tables_of}
+use Rattle.lint_core.specs.Fits.{tables_of}
 use Rattle.lint_core.specs.Predicates.{with_replaced}
 use Rattle.lint_core.specs.Subqueries.{Subquery, is_column}
-use Rattle.sort_formula.specs.declared.formula.Side.{Side}
 use Rattle.sort_formula.specs.declared.formula.Side.TheVariants as side
 use Rattle.sort_formula.specs.declared.formula.Atom.TheVariants as atom
 use Rattle.sort_formula.specs.declared.formula.Formula.{Formula}

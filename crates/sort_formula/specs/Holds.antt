@@ -1,6 +1,6 @@
 -- When a formula holds at rows of a database: ordinary two-valued truth of first-order logic. The rows are those of
 -- its variables, from 0; a quantifier ranges over the places of its table and appends one.
-use Rattle.std.specs.Prelude.{ℕ, ℤ, pos, ◌-ℤ◌, Bool, true, false, ◌&&◌, not, nat_eq, List, [], ◌∷◌, ◌++◌, Option, Some, None, slice_get, option_and_then, unwrap_or}
+use Rattle.std.specs.Prelude.{ℕ, ℤ, pos, ◌-ℤ◌, Bool, false, ◌&&◌, not, nat_eq, List, [], ◌∷◌, ◌++◌, Option, Some, slice_get, option_and_then, unwrap_or}
 use Rattle.std.specs.List.{list_any, list_all}
 use Rattle.lint_core.specs.declared.database.Value.{Value}
 use Rattle.lint_core.specs.declared.database.Value.TheVariants.{Null, Int, Text}

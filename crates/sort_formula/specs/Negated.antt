@@ -1,6 +1,6 @@
 -- The negation of a formula, in which no NOT stands: And and Or, Exists and Forall, IsNull and NotNull, Same and
 -- Other change places. A comparison fails where a cell of it is NULL, or where the opposite comparison holds.
-use Rattle.std.specs.Prelude.{ℤ, pos, neg_ℤ, ◌-ℤ◌, List, [], ◌∷◌, ◌++◌, map}
+use Rattle.std.specs.Prelude.{pos, neg_ℤ, ◌-ℤ◌, List, [], ◌∷◌, ◌++◌}
 use Rattle.sort_formula.specs.declared.formula.Side.{Side}
 use Rattle.sort_formula.specs.declared.formula.Side.TheVariants as side
 use Rattle.sort_formula.specs.declared.formula.Atom.{Atom}

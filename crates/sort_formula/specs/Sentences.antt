@@ -1,7 +1,7 @@
 -- Which formulas are sentences: each variable is bound, Same and Other join variables of one table, and bounds lie
 -- within plus or minus 2^66. And when a formula fits a schema: every table and column exists, Le compares number
 -- cells and 0, TextEq and TextNe text cells and texts.
-use Rattle.std.specs.Prelude.{ℕ, ◌+◌, ◌^◌, ℤ, pos, neg_ℤ, Bool, true, false, ◌&&◌, nat_eq, nat_lt, List, [], ◌∷◌, ◌++◌, length, Option, Some, None, slice_get, option_and_then, is_some}
+use Rattle.std.specs.Prelude.{ℕ, ◌^◌, ℤ, pos, neg_ℤ, Bool, true, false, ◌&&◌, nat_eq, nat_lt, List, [], ◌∷◌, ◌++◌, length, Option, slice_get, option_and_then, is_some}
 use Rattle.std.specs.List.{list_all}
 use Rattle.std.specs.Option.{option_map_or}
 use Rattle.lint_core.specs.declared.schema.Kind.{Kind}

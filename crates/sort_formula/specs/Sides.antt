@@ -1,7 +1,7 @@
 -- Comparisons of terms as formulas. A number term is a side and a number that is added to it: a cell and its
 -- `plus`, or 0 and the literal. The bounds come from the operator's difference bounds. A comparison with NULL has
 -- neither truth, so its formula is that of nothing.
-use Rattle.std.specs.Prelude.{ℕ, ◌+◌, ℤ, pos, ◌-ℤ◌, Bool, true, false, ◌||◌, List, [], ◌∷◌, length, map, Option, Some, None, unwrap_or, if◌then◌else◌}
+use Rattle.std.specs.Prelude.{ℕ, ◌+◌, ℤ, pos, ◌-ℤ◌, Bool, true, false, ◌||◌, List, [], ◌∷◌, length, map, unwrap_or, if◌then◌else◌}
 use Rattle.std.specs.List.{flat_map}
 use Rattle.std.specs.Option.{option_map_or}
 use Rattle.lint_tables.specs.declared.op.Op.{Op}

@@ -1,11 +1,15 @@
-//! What `negate` and `place` are for. The functions do nothing: each contract is a law about the definitions in
-//! `specs/`.
-ghost use Rattle.std.specs.Prelude.{◌≡◌, ℕ, true, not, length, map, List, slice_get, Some};
+//! What `negate` and `place` are for, and what accepted steps show. The functions do nothing: each contract is a law
+//! about the definitions in `specs/`.
+ghost use Rattle.std.specs.Prelude.{◌≡◌, ℕ, true, false, [], not, length, map, List, slice_get, Some};
+ghost use Rattle.std.specs.List.{list_all};
+ghost use Rattle.lint_core.specs.declared.certificate.Step.{Step};
 ghost use Rattle.lint_core.specs.declared.database.Database.{Database};
 ghost use Rattle.lint_core.specs.declared.schema.Table.{Table};
 ghost use Rattle.lint_core.specs.Database.{Place};
 ghost use Rattle.lint_core.specs.Meets.{is_of_domains};
 ghost use Rattle.sort_formula.specs.declared.formula.Formula.{Formula};
+ghost use Rattle.sort_formula.specs.Axioms.{Axiom, axioms};
+ghost use Rattle.sort_formula.specs.Certificate.{accepts};
 ghost use Rattle.sort_formula.specs.Holds.{holds};
 ghost use Rattle.sort_formula.specs.Negated.{negated};
 ghost use Rattle.sort_formula.specs.Placed.{placed};
@@ -27,4 +31,12 @@ pub fn placing_renames()
         → length others ≡ depth
         → map (slice_get others) numbers ≡ map (λ place. Some place) rows
         → holds db (placed numbers depth formula) others ≡ holds db formula rows }
+{}
+
+/// A sentence that accepted steps refute holds in no database of the schema's domains in which all axioms hold.
+pub fn accepted_steps_refute()
+    ensures { (schema : List Table) (sentence : Formula) (steps : List Step) → accepts schema sentence steps ≡ true
+        → (db : Database) → is_of_domains schema db ≡ true
+        → list_all (λ (a : Axiom). holds db a.sentence []) (axioms schema) ≡ true
+        → holds db sentence [] ≡ false }
 {}

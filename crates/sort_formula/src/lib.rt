@@ -5,6 +5,10 @@
 //! make), `Variables` (`is_numbered_from`: which formulas `place` takes), `Sentences` (what a sentence is), `Nodes`,
 //! and `Rows`, which the laws speak of. The laws `negation_complements` and `placing_renames` say what `negate` and
 //! `place` are for.
+//!
+//! When the steps of a certificate are accepted is defined in `Certificate`, with `Facts`, `Rings` and `Chains`; none of
+//! them need be believed, since the law `accepted_steps_refute` says what accepted steps show: that the sentence holds
+//! in no database of the domains in which all of `Axioms` hold.
 #![tactic(auto)]
 
 mod copies;
@@ -20,8 +24,8 @@ mod tests;
 mod worked;
 
 pub use formula::{Atom, Formula, Side};
-pub use laws::{negation_complements, placing_renames};
+pub use laws::{accepted_steps_refute, negation_complements, placing_renames};
 pub use negation::negate;
 pub use placing::place;
 pub use sentence::Sentence;
-pub use worked::worked_formulas;
+pub use worked::{worked_formulas, worked_steps};

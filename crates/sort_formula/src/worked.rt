@@ -1,6 +1,6 @@
-//! The translations by small examples. The function does nothing: its contract is facts about the definitions in
-//! `specs/`.
-ghost use Rattle.std.specs.Prelude.{◌≡◌, pos, neg_ℤ, List, [], ◌∷◌, Some, None};
+//! The translations and accepted steps by small examples. The functions do nothing: each contract is facts about the
+//! definitions in `specs/`.
+ghost use Rattle.std.specs.Prelude.{◌≡◌, pos, neg_ℤ, true, false, List, [], ◌∷◌, Some, None};
 ghost use Rattle.lint_tables.specs.declared.op.Op.TheVariants.{Ne};
 ghost use Rattle.lint_core.specs.declared.condition.Cond.TheVariants.{Compare};
 ghost use Rattle.lint_core.specs.Examples.{nowhere, number, the_column, plain, unique, select_distinct};
@@ -10,7 +10,9 @@ ghost use Rattle.sort_formula.specs.declared.formula.Formula.TheVariants.{Atom a
 ghost use Rattle.sort_formula.specs.declared.formula.Atom.TheVariants.{Le, IsNull, Same, Other};
 ghost use Rattle.sort_formula.specs.declared.formula.Side.TheVariants.{Cell, Zero};
 ghost use Rattle.sort_formula.specs.Axioms.{axioms};
+ghost use Rattle.sort_formula.specs.Certificate.{accepts};
 ghost use Rattle.sort_formula.specs.Counters.{counter_sentence};
+ghost use Rattle.sort_formula.specs.Examples.{two_rows_agree, refuted_by_key, texts, is_both, refuted_by_texts};
 ghost use Rattle.sort_formula.specs.Sides.{Scope};
 ghost use Rattle.sort_formula.specs.Translation.{is_true_formula};
 
@@ -30,4 +32,14 @@ pub fn worked_formulas()
         ≡ Exists 0 (Exists 0 (And (And [] ∷ And [] ∷ Or (Fact (Other 0 1) ∷ [])
         ∷ Or (And (Fact (IsNull 0 0) ∷ Fact (IsNull 1 0) ∷ [])
         ∷ And (Fact (Le (Cell 0 0) (Cell 1 0) (pos 0)) ∷ Fact (Le (Cell 1 0) (Cell 0 0) (pos 0)) ∷ []) ∷ []) ∷ []))) }
+{}
+
+/// Steps that name the right facts are accepted; not so where one names another fact, where some are left out, or
+/// where the two texts that a chain joins are the same.
+pub fn worked_steps()
+    ensures key { accepts unique two_rows_agree (refuted_by_key 9) ≡ true }
+    ensures misnamed { accepts unique two_rows_agree (refuted_by_key 8) ≡ false }
+    ensures left_out { accepts unique two_rows_agree [] ≡ false }
+    ensures two_texts { accepts texts (is_both 97 98) refuted_by_texts ≡ true }
+    ensures one_text { accepts texts (is_both 97 97) refuted_by_texts ≡ false }
 {}

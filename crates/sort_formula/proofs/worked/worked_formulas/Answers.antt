@@ -1,5 +1,5 @@
-use Rattle.std.proofs.Common.{◌≡◌, ◌∙◌, ap, refl, [], ◌∷◌}
-use Rattle.lint_core.specs.declared.condition.Block.{Block, out-Block, out-roll-Block}
+use Rattle.std.proofs.Common.{◌≡◌, ap, refl, [], ◌∷◌}
+use Rattle.lint_core.specs.declared.condition.Block.{Block, out-roll-Block}
 use Rattle.lint_core.specs.declared.condition.Cond.{Cond}
 use Rattle.lint_core.specs.declared.condition.Cond.TheVariants as c
 use Rattle.lint_core.specs.declared.condition.Cond.TheOpen.{Block-F}
