@@ -1,5 +1,5 @@
 -- Accepted steps show the question.
-use Rattle.std.proofs.Common.{◌≡◌, ◌∙◌, sym, ap, ap₂, refl, subst, ℕ, zero, suc, ◌+◌, ◌<◌, Bool, true, false, List, [], ◌∷◌, ◌++◌, length, map, arith}
+use Rattle.std.proofs.Common.{◌≡◌, ◌∙◌, sym, ap, refl, subst, ℕ, ◌<◌, Bool, true, false, List, [], ◌∷◌, length, map}
 use Rattle.std.proofs.lemmas.Bool.{and_parts}
 use Rattle.std.proofs.lemmas.List.Elements.{recursion_from_All}
 use Rattle.std.specs.List.{AllByRecursion, list_all}
@@ -7,7 +7,6 @@ use Rattle.std.specs.Prelude.{slice_get}
 use Rattle.lint_core.specs.declared.certificate.Step.{Step}
 use Rattle.lint_core.specs.declared.condition.Entry.{Entry}
 use Rattle.lint_core.specs.declared.database.Database.{Database}
-use Rattle.lint_core.specs.declared.database.Points.{Points}
 use Rattle.lint_core.specs.declared.database.Value.TheVariants.{Null}
 use Rattle.lint_core.specs.declared.query.Query.{Query}
 use Rattle.lint_core.specs.declared.query.Question.TheVariants.{Empty}
@@ -16,24 +15,23 @@ use Rattle.lint_core.specs.Asked.{main_condition}
 use Rattle.lint_core.specs.Condition.{is_true_at}
 use Rattle.lint_core.specs.Database.{Place}
 use Rattle.lint_core.specs.FirstForm.{Conjunct, IsFirstForm, is_plain_column}
-use Rattle.lint_core.specs.Meets.{meets, is_of_domains, all_constraints_met}
+use Rattle.lint_core.specs.Meets.{is_of_domains, all_constraints_met}
 use Rattle.lint_core.specs.Question.{where_is_true, refutes, HoldsAlways}
-use Rattle.lint_core.specs.Schema.{is_schema}
 use Rattle.sort_formula.specs.declared.formula.Formula.{Formula}
 use Rattle.sort_formula.specs.Axioms.{Axiom, axioms}
 use Rattle.sort_formula.specs.Certificate.{accepts}
 use Rattle.sort_formula.specs.Counters.{counter_sentence}
 use Rattle.sort_formula.specs.Holds.{holds}
 use Rattle.lint_engine.proofs.Failures.{at_row, tables_at, rows_at, entry_tables, where_formula, Agrees, refuted_says}
-use Rattle.lint_engine.proofs.Reading.{comparisons_of, formula_at, HasNoText, all_no_text, formula_of_where, no_axioms}
+use Rattle.lint_engine.proofs.Reading.{comparisons_of, HasNoText, all_no_text, formula_of_where, no_axioms}
 use Rattle.lint_engine.proofs.Branch.{formula_of_all}
 use Rattle.lint_engine.proofs.Truths.{agrees}
 
-false_from : (b : Bool) → (b ≡ true → ⊥) → b ≡ false
+pub false_from : (b : Bool) → (b ≡ true → ⊥) → b ≡ false
 false_from true never = absurd (never refl)
 false_from false never = refl
 
-both_ways : (b : Bool) → b ≡ true → b ≡ false → ⊥
+pub both_ways : (b : Bool) → b ≡ true → b ≡ false → ⊥
 both_ways b holding failing = cc
 
 -- places of the one table

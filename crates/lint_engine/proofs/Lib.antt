@@ -7,6 +7,7 @@ pub mod Reading
 pub mod Truths
 pub mod Failures
 pub mod Certified
+pub mod Questions
 pub mod Row
 pub mod Refuted
 pub mod Cycle

@@ -1,5 +1,5 @@
 -- What the comparisons of a query of the first form are, and which sentence they make.
-use Rattle.std.proofs.Common.{◌≡◌, ◌∙◌, ap, refl, subst, sym, ℕ, zero, suc, ◌<◌, ℤ, pos, Bool, true, false, not, ◌&&◌, List, [], ◌∷◌, map, length, arith}
+use Rattle.std.proofs.Common.{◌≡◌, ◌∙◌, ap, refl, ℕ, zero, suc, ◌<◌, ℤ, pos, Bool, true, false, not, List, [], ◌∷◌, map, length, arith}
 use Rattle.std.proofs.lemmas.Bool.{and_parts}
 use Rattle.std.proofs.lemmas.List.Elements.{recursion_from_All}
 use Rattle.std.specs.Prelude.{Some, slice_get}
@@ -28,7 +28,7 @@ use Rattle.lint_core.specs.Kind.{kind_of, with_added, is_text}
 use Rattle.sort_formula.specs.Axioms.{axioms, not_null_axioms}
 use Rattle.sort_formula.specs.Counters.{counter_sentence}
 use Rattle.sort_formula.specs.Sides.{Scope, scope_of, is_text_term, compare_formula}
-use Rattle.sort_formula.specs.Translation.{Both, Meaning, BlockMeaning, translation, translation_step, block_step, is_true_formula}
+use Rattle.sort_formula.specs.Translation.{Meaning, BlockMeaning, translation, translation_step, block_step, is_true_formula}
 use Rattle.lint_engine.specs.declared.comparison.Comparison.{Comparison}
 use Rattle.lint_engine.specs.Plan.{comparisons_among, comparisons_layer, comparisons_in}
 use Rattle.lint_engine.proofs.Branch.{fact_of, formula_of, formula_of_all, sentence_of}

@@ -1,13 +1,12 @@
 -- At a row of the table the formula of a WHERE of the first form holds exactly where it is true.
 use Rattle.std.proofs.Common.{◌≡◌, ◌∙◌, sym, ap, ap₂, refl, ℕ, ℤ, pos, ◌+ℤ◌, ◌-ℤ◌, Bool, true, false, not, ◌&&◌, ◌||◌, List, [], ◌∷◌, map, arith}
 use Rattle.std.proofs.lemmas.Int.{ints}
-use Rattle.std.specs.Prelude.{Ok, Some, unwrap_or, int_lt}
+use Rattle.std.specs.Prelude.{Ok, unwrap_or, int_lt}
 use Rattle.std.specs.List.{list_all}
 use Rattle.std.specs.Ordering.{int_eq}
 use Rattle.lint_tables.specs.declared.op.Op.{Op}
 use Rattle.lint_tables.specs.declared.op.Op.TheVariants.{Eq, Ne, Lt, Le, Gt, Ge}
 use Rattle.lint_tables.specs.Operators.{is_related}
-use Rattle.lint_core.specs.declared.condition.Cond.{Cond}
 use Rattle.lint_core.specs.declared.condition.Cond.TheVariants as cond
 use Rattle.lint_core.specs.declared.condition.Term.TheVariants as term
 use Rattle.lint_core.specs.declared.database.Database.{Database}
@@ -30,7 +29,7 @@ use Rattle.sort_formula.specs.Holds.{holds, differ_by_at_most}
 use Rattle.sort_formula.proofs.Holding.{holds_atom, holds_and, holds_or}
 use Rattle.lint_engine.specs.declared.comparison.Comparison.{Comparison}
 use Rattle.lint_engine.proofs.Branch.{upper, lower, formula_of, fact_of, formula_of_all}
-use Rattle.lint_engine.proofs.Reading.{comparison_of_conjunct, comparisons_of}
+use Rattle.lint_engine.proofs.Reading.{comparisons_of}
 
 -- ---- one comparison of a value with a number
 
