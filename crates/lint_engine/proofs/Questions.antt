@@ -1,10 +1,10 @@
 -- Accepted steps show the question, for every query that fits: from what they show of their sentence, and from what
 -- the formula of a condition says.
-use Rattle.std.proofs.Common.{◌≡◌, ◌∙◌, sym, ap, refl, subst, ℕ, zero, suc, ◌+◌, ◌<◌, ◌≤◌, Bool, true, false, ◌&&◌, ◌⊎◌, inl, inr, List, [], ◌∷◌, ◌++◌, length, map, add-one, arith}
+use Rattle.std.proofs.Common.{◌≡◌, ◌∙◌, sym, ap, refl, subst, ℕ, zero, suc, ◌+◌, ◌<◌, ◌≤◌, true, false, ◌&&◌, inl, inr, List, [], ◌∷◌, ◌++◌, length, map, add-one, arith}
 use Rattle.std.proofs.lemmas.Bool.{and_parts, cases_lt}
 use Rattle.std.proofs.lemmas.List.{length-map, length-append, append-nil}
 use Rattle.std.proofs.lemmas.Option.{slice_get-map, slice_get_past}
-use Rattle.std.specs.Prelude.{Ok, Err, Option, Some, None, slice_get, option_and_then, option_map, nat_le, nat_lt}
+use Rattle.std.specs.Prelude.{Ok, Err, Option, Some, slice_get, option_and_then, option_map, nat_le, nat_lt}
 use Rattle.std.specs.List.{list_all}
 use Rattle.lint_core.specs.declared.certificate.Step.{Step}
 use Rattle.lint_core.specs.declared.condition.Block.{Block, fold_out-Block}
@@ -17,12 +17,12 @@ use Rattle.lint_core.specs.declared.query.Query.{Query}
 use Rattle.lint_core.specs.declared.query.Question.TheVariants.{Empty}
 use Rattle.lint_core.specs.declared.schema.Table.{Table}
 use Rattle.lint_core.specs.Asked.{main_condition}
-use Rattle.lint_core.specs.Condition.{truth, has_truth, place_of}
+use Rattle.lint_core.specs.Condition.{truth, has_truth}
 use Rattle.lint_core.specs.Database.{Place, below}
 use Rattle.lint_core.specs.Evaluation.{Evaluated}
 use Rattle.lint_core.specs.Fits.{Meaning, BlockMeaning, fits_step, block_step, cond_fits, block_fits, count_conditions, selection_fits, query_fits, main_tables, tables_of}
 use Rattle.lint_core.specs.Meets.{meets, is_of_domains, all_constraints_met}
-use Rattle.lint_core.specs.Question.{where_is_true, refutes, HoldsAlways}
+use Rattle.lint_core.specs.Question.{refutes, HoldsAlways}
 use Rattle.lint_core.specs.Schema.{is_schema}
 use Rattle.lint_core.specs.Truth.{is_true}
 use Rattle.lint_core.proofs.Lists.{below_at}
@@ -30,11 +30,11 @@ use Rattle.sort_formula.specs.declared.formula.Formula.{Formula}
 use Rattle.sort_formula.specs.Certificate.{accepts}
 use Rattle.sort_formula.specs.Counters.{counter_sentence}
 use Rattle.sort_formula.specs.Holds.{holds}
-use Rattle.sort_formula.specs.Sides.{Scope, scope_of, from_number, all_of}
-use Rattle.sort_formula.specs.Standpoint.{IsRowOf, StandsFor}
+use Rattle.sort_formula.specs.Sides.{Scope, scope_of, from_number}
+use Rattle.sort_formula.specs.Standpoint.{StandsFor}
 use Rattle.sort_formula.specs.Translation.{is_true_formula}
 use Rattle.lint_engine.proofs.Certified.{false_from, both_ways}
-use Rattle.lint_engine.proofs.Failures.{tables_at, rows_at, entry_tables, where_formula, Agrees, refuted_says}
+use Rattle.lint_engine.proofs.Failures.{tables_at, rows_at, Agrees, refuted_says}
 
 -- ---- a binding of the entries, and the rows of their variables
 
