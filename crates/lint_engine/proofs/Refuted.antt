@@ -1,6 +1,6 @@
 -- The database of one row meets the schema, and the condition is true at its row.
 use Rattle.std.proofs.Common.{◌≡◌, ◌∙◌, sym, ap, refl, subst, ℕ, zero, suc, ◌+◌, ◌-◌, ◌<◌, length, ℤ, pos, ◌+ℤ◌, true, List, [], ◌∷◌, ◌++◌, map, replicate, arith}
-use Rattle.std.proofs.lemmas.Bool.{and_from, and_parts, or_left, or_right, eq-eqb}
+use Rattle.std.proofs.lemmas.Bool.{and_from, or_left, or_right, eq-eqb}
 use Rattle.std.proofs.lemmas.Option.{none-some, same_Some, slice_get_within}
 use Rattle.std.specs.Prelude.{Option, Some, Ok, slice_get, unwrap_or, nat_eq}
 use Rattle.std.specs.List.{AllByRecursion}
