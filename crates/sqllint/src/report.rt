@@ -233,11 +233,7 @@ fn push_last(out: &mut String, last: Option<u32>) -> Result<(), AllocError>
 }
 
 #[tactic(auto, unfolding(crate::specs::Text::step_text))]
-fn push_text_step(
-    out: &mut String,
-    last: Option<u32>,
-    edges: &[TextEdge],
-) -> Result<(), AllocError>
+fn push_text_step(out: &mut String, last: Option<u32>, edges: &[TextEdge]) -> Result<(), AllocError>
     ensures { OnOk result (string_bytes out.new ≡ string_bytes out.old ++ step_text (variant.Text last edges.now)) }
 {
     push_text(out, "[\"text\",")?;
@@ -294,9 +290,7 @@ fn push_step(out: &mut String, step: &Step) -> Result<(), AllocError>
             push_text(out, "]]")
         }
         Step::Text { last, edges } => push_text_step(out, *last, edges.as_slice()),
-        Step::Null { fact, other, path } => {
-            push_null_step(out, *fact, *other, path.as_slice())
-        }
+        Step::Null { fact, other, path } => { push_null_step(out, *fact, *other, path.as_slice()) }
         Step::Same { fact, path } => push_same_step(out, *fact, path.as_slice()),
     }
 }
