@@ -1,9 +1,10 @@
 -- What the opening steps leave: one branch, in which each inequality is stated.
-use Rattle.std.proofs.Common.{◌≡◌, ◌∙◌, sym, ap, refl, subst, ℕ, zero, suc, ◌+◌, ◌<◌, length, ℤ, pos, neg_ℤ, ◌+ℤ◌, ◌-ℤ◌, true, List, [], ◌∷◌, ◌++◌, map, append_assoc, add-one, length-append, arith}
+use Rattle.std.proofs.Common.{◌≡◌, ◌∙◌, sym, ap, refl, subst, ℕ, zero, suc, ◌+◌, ◌<◌, length, ℤ, pos, neg_ℤ, ◌+ℤ◌, ◌-ℤ◌, true, false, List, [], ◌∷◌, ◌++◌, map, append_assoc, add-one, length-append, arith}
 use Rattle.std.proofs.lemmas.Int.{ints}
 use Rattle.std.proofs.lemmas.List.{length-map}
 use Rattle.std.proofs.lemmas.Option.{none-some}
 use Rattle.std.specs.Prelude.{Some, slice_get}
+use Rattle.std.specs.Option.{option_map_or}
 use Rattle.std.specs.List.{AllByRecursion}
 use Rattle.lint_core.specs.declared.certificate.Step.{Step}
 use Rattle.lint_core.specs.declared.certificate.Step.TheVariants as step
@@ -11,17 +12,19 @@ use Rattle.lint_core.specs.declared.certificate.SumEdge.{SumEdge}
 use Rattle.lint_core.specs.declared.certificate.SumEdge.TheVariants as edge
 use Rattle.lint_tables.specs.declared.op.Op.{Op}
 use Rattle.lint_tables.specs.declared.op.Op.TheVariants.{Eq, Ne, Lt, Le, Gt, Ge}
-use Rattle.lint_core.specs.declared.formula.Atom.TheVariants as atom
-use Rattle.lint_core.specs.declared.formula.Side.{Side}
-use Rattle.lint_core.specs.declared.formula.Side.TheVariants as side
-use Rattle.lint_core.specs.declared.formula.Formula.{Formula}
-use Rattle.lint_core.specs.declared.formula.Formula.TheVariants as f
+use Rattle.sort_formula.specs.declared.formula.Atom.TheVariants as atom
+use Rattle.sort_formula.specs.declared.formula.Side.{Side}
+use Rattle.sort_formula.specs.declared.formula.Side.TheVariants as side
+use Rattle.sort_formula.specs.declared.formula.Formula.{Formula}
+use Rattle.sort_formula.specs.declared.formula.Formula.TheVariants as f
 use Rattle.lint_core.specs.declared.schema.Column.{Column}
 use Rattle.lint_core.specs.declared.schema.Domain.{Domain}
 use Rattle.lint_core.specs.declared.schema.Domain.TheVariants.{Number, Text}
 use Rattle.lint_core.specs.declared.schema.Table.{Table}
-use Rattle.lint_core.specs.Translation.{le, comparison}
-use Rattle.lint_core.specs.Certificate.{Fact, Branch, side_at, bound_of, domain_at, branches_after, first_branch, accepts, are_closed, is_contradiction}
+use Rattle.sort_formula.specs.Axioms.{le, axioms}
+use Rattle.sort_formula.specs.Certificate.{branches_after, first_branch, accepts, are_closed}
+use Rattle.sort_formula.specs.Facts.{Fact, Branch, side_at, domain_at}
+use Rattle.sort_formula.specs.Rings.{bound_of, is_contradiction}
 use Rattle.lint_engine.specs.declared.comparison.Comparison.{Comparison}
 use Rattle.lint_engine.specs.Plan.{at_most, at_least, of_domain, of_domains, of_comparison, of_comparisons, parts_after, first_fact, inequalities_of, equation_step, equation_steps, and_steps, opening_steps}
 use Rattle.lint_engine.proofs.Stated.{side_of_variable, IsStated}
@@ -47,9 +50,21 @@ all_append P (x ∷ xs) ys left right = (left.0, all_append P xs ys left.1 right
 
 -- ---- the facts
 
+-- the column lies below the literal, or above it, by at least so much
+abbrev pub upper : ℕ → ℤ → ℕ → Formula
+upper column literal less = le (side.Cell 0 column) side.Zero (literal -ℤ pos 0 -ℤ pos less)
+
+abbrev pub lower : ℕ → ℤ → ℕ → Formula
+lower column literal less = le side.Zero (side.Cell 0 column) (pos 0 -ℤ literal -ℤ pos less)
+
 -- the formula of a comparison at the branch's one row
 abbrev pub formula_of : ℕ → ℤ → Op → Formula
-formula_of column literal op = comparison op (side.Cell 0 column) (pos 0) side.Zero literal
+formula_of column literal Eq = f.And (upper column literal 0 ∷ lower column literal 0 ∷ [])
+formula_of column literal Ne = f.Or (upper column literal 1 ∷ lower column literal 1 ∷ [])
+formula_of column literal Lt = upper column literal 1
+formula_of column literal Le = upper column literal 0
+formula_of column literal Gt = lower column literal 1
+formula_of column literal Ge = lower column literal 0
 
 abbrev pub at_row : Formula → Fact
 at_row formula = record { formula = formula; rows = 0 ∷ [] }
@@ -59,7 +74,7 @@ fact_of c = at_row (formula_of c.column c.literal c.op)
 
 -- the parts of an equation
 abbrev pub part_facts_of : ℕ → ℤ → Op → List Fact
-part_facts_of column literal Eq = at_row (le (side.Cell 0 column) side.Zero (literal -ℤ pos 0)) ∷ at_row (le side.Zero (side.Cell 0 column) (pos 0 -ℤ literal)) ∷ []
+part_facts_of column literal Eq = at_row (upper column literal 0) ∷ at_row (lower column literal 0) ∷ []
 part_facts_of column literal Ne = []
 part_facts_of column literal Lt = []
 part_facts_of column literal Le = []
@@ -96,7 +111,7 @@ module _ (schema : List Table) (tables : List ℕ) where
   after_equation : (op : Op) (column : ℕ) (literal : ℤ) (fact : ℕ) (facts : List Fact) (rest : List Step) → slice_get facts fact ≡ Some (at_row (formula_of column literal op)) →
       branches_after schema (equation_step fact op ++ rest) (with_facts facts ∷ []) ≡ branches_after schema rest (with_facts (facts ++ part_facts_of column literal op) ∷ [])
   after_equation Eq column literal fact facts rest at =
-      rw (at, f.outs-And (le (side.Cell 0 column) side.Zero (literal -ℤ pos 0) ∷ le side.Zero (side.Cell 0 column) (pos 0 -ℤ literal) ∷ [])) refl
+      rw (at, f.outs-And (upper column literal 0 ∷ lower column literal 0 ∷ [])) refl
   after_equation Ne column literal fact facts rest at = ap (λ fs. branches_after schema rest (with_facts fs ∷ [])) (sym (append_nil facts))
   after_equation Lt column literal fact facts rest at = ap (λ fs. branches_after schema rest (with_facts fs ∷ [])) (sym (append_nil facts))
   after_equation Le column literal fact facts rest at = ap (λ fs. branches_after schema rest (with_facts fs ∷ [])) (sym (append_nil facts))
@@ -137,14 +152,14 @@ module _ (schema : List Table) (branch : Branch) where
   comparison_stated : (op : Op) (column : ℕ) (literal : ℤ) (fact parts : ℕ) → slice_get branch.facts fact ≡ Some (at_row (formula_of column literal op)) → StandFrom branch.facts parts (part_facts_of column literal op) →
       AllByRecursion (IsStated schema branch) (of_comparison fact parts column literal op)
   comparison_stated Eq column literal fact parts at stand = (
-    at_most_stated parts column (literal -ℤ pos 0) literal stand.0 (omega (arith, ints)),
-    (at_least_stated (parts + 1) column (pos 0 -ℤ literal) literal stand.1.0 (omega (arith, ints)), tt),
+    at_most_stated parts column (literal -ℤ pos 0 -ℤ pos 0) literal stand.0 (omega (arith, ints)),
+    (at_least_stated (parts + 1) column (pos 0 -ℤ literal -ℤ pos 0) literal stand.1.0 (omega (arith, ints)), tt),
   )
   comparison_stated Ne column literal fact parts at stand = tt
   comparison_stated Lt column literal fact parts at stand = (at_most_stated fact column (literal -ℤ pos 0 -ℤ pos 1) (literal -ℤ pos 1) at (omega (arith, ints)), tt)
-  comparison_stated Le column literal fact parts at stand = (at_most_stated fact column (literal -ℤ pos 0) literal at (omega (arith, ints)), tt)
+  comparison_stated Le column literal fact parts at stand = (at_most_stated fact column (literal -ℤ pos 0 -ℤ pos 0) literal at (omega (arith, ints)), tt)
   comparison_stated Gt column literal fact parts at stand = (at_least_stated fact column (pos 0 -ℤ literal -ℤ pos 1) (literal +ℤ pos 1) at (omega (arith, ints)), tt)
-  comparison_stated Ge column literal fact parts at stand = (at_least_stated fact column (pos 0 -ℤ literal) literal at (omega (arith, ints)), tt)
+  comparison_stated Ge column literal fact parts at stand = (at_least_stated fact column (pos 0 -ℤ literal -ℤ pos 0) literal at (omega (arith, ints)), tt)
 
   -- the parts of the first comparison, and those of the others
   split_parts : (op : Op) (column : ℕ) (literal : ℤ) (parts : ℕ) (more : List Fact) → StandFrom branch.facts parts (part_facts_of column literal op ++ more) → StandFrom branch.facts parts (part_facts_of column literal op) × StandFrom branch.facts (parts_after parts op) more
@@ -240,21 +255,21 @@ after_and schema t (c ∷ next ∷ cs) rest some =
     rw (f.outs-And (map (λ (x : Comparison). (fact_of x).formula) (c ∷ next ∷ cs)))
     (ap (λ fs. branches_after schema rest (record { facts = whole_fact t (c ∷ next ∷ cs) ∷ at_row (formula_of_all (c ∷ next ∷ cs)) ∷ fact_of c ∷ fact_of next ∷ fs; tables = t ∷ [] } ∷ [])) (map_at_row cs))
 
-after_exists : (schema : List Table) (t : ℕ) (body : Formula) (rest : List Step) →
-    branches_after schema (step.Ex 0 ∷ rest) (first_branch (f.Exists t body) ∷ []) ≡ branches_after schema rest (record { facts = record { formula = f.Exists t body; rows = [] } ∷ at_row body ∷ []; tables = t ∷ [] } ∷ [])
-after_exists schema t body rest = rw (f.outs-Exists t body) refl
+after_exists : (schema : List Table) (t : ℕ) (body : Formula) (rest : List Step) → axioms schema ≡ [] →
+    branches_after schema (step.Ex 0 ∷ rest) (first_branch schema (f.Exists t body) ∷ []) ≡ branches_after schema rest (record { facts = record { formula = f.Exists t body; rows = [] } ∷ at_row body ∷ []; tables = t ∷ [] } ∷ [])
+after_exists schema t body rest none = rw (none, f.outs-Exists t body) refl
 
-pub after_opening : (schema : List Table) (t : ℕ) (cs : List Comparison) (rest : List Step) → 0 < length cs → branches_after schema (opening_steps cs ++ rest) (first_branch (sentence_of t cs) ∷ []) ≡ branches_after schema rest (opened t cs ∷ [])
-after_opening schema t cs rest some =
-    after_exists schema t (formula_of_all cs) ((and_steps cs ++ equation_steps (first_fact cs) cs) ++ rest)
+pub after_opening : (schema : List Table) (t : ℕ) (cs : List Comparison) (rest : List Step) → axioms schema ≡ [] → 0 < length cs → branches_after schema (opening_steps cs ++ rest) (first_branch schema (sentence_of t cs) ∷ []) ≡ branches_after schema rest (opened t cs ∷ [])
+after_opening schema t cs rest none some =
+    after_exists schema t (formula_of_all cs) ((and_steps cs ++ equation_steps (first_fact cs) cs) ++ rest) none
     ∙ (ap (λ ss. branches_after schema ss (record { facts = whole_fact t cs ∷ at_row (formula_of_all cs) ∷ []; tables = t ∷ [] } ∷ [])) (append_assoc (and_steps cs) (equation_steps (first_fact cs) cs) rest)
     ∙ (after_and schema t cs (equation_steps (first_fact cs) cs ++ rest) some
     ∙ after_equations schema (t ∷ []) cs (first_fact cs) (facts_before t cs) rest (listed t cs some)))
 
 -- a ring that contradicts itself in that branch closes it
-pub opening_accepted : (schema : List Table) (t : ℕ) (cs : List Comparison) (ring : List SumEdge) → 0 < length cs → is_contradiction schema (opened t cs) ring ≡ true → accepts schema (sentence_of t cs) (opening_steps cs ++ step.Sum ring ∷ []) ≡ true
-opening_accepted schema t cs ring some contradicts =
-    ap are_closed (after_opening schema t cs (step.Sum ring ∷ []) some) ∙ rw contradicts refl
+pub opening_accepted : (schema : List Table) (t : ℕ) (cs : List Comparison) (ring : List SumEdge) → axioms schema ≡ [] → 0 < length cs → is_contradiction schema (opened t cs) ring ≡ true → accepts schema (sentence_of t cs) (opening_steps cs ++ step.Sum ring ∷ []) ≡ true
+opening_accepted schema t cs ring none some contradicts =
+    ap (λ bs. option_map_or are_closed bs false) (after_opening schema t cs (step.Sum ring ∷ []) none some) ∙ rw contradicts refl
 
 -- each inequality of the plan is stated in that branch
 pub all_stated : (schema : List Table) (t : ℕ) (table : Table) (cs : List Comparison) → slice_get schema t ≡ Some table → 0 < length cs → AllByRecursion (IsStated schema (opened t cs)) (inequalities_of table.columns cs)

@@ -14,7 +14,8 @@ use Rattle.lint_core.specs.declared.schema.Domain.{Domain}
 use Rattle.lint_core.specs.declared.schema.Domain.TheVariants.{Number, Text}
 use Rattle.lint_core.specs.declared.schema.Table.{Table}
 use Rattle.lint_core.specs.Schema.{is_schema}
-use Rattle.lint_core.specs.Certificate.{Branch, is_contradiction}
+use Rattle.sort_formula.specs.Facts.{Branch}
+use Rattle.sort_formula.specs.Rings.{is_contradiction}
 use Rattle.diff_bounds.specs.declared.system.Edge.{Edge}
 use Rattle.diff_bounds.specs.Cycles.{edge_at, IsClosed, IsNegativeCycle, IsSimple}
 use Rattle.lint_engine.specs.declared.comparison.Comparison.{Comparison}

@@ -1,6 +1,6 @@
 -- The database of one row meets the schema, and the condition is true at its row.
-use Rattle.std.proofs.Common.{◌≡◌, ◌∙◌, sym, ap, refl, subst, ℕ, zero, suc, ◌+◌, ◌-◌, ◌<◌, length, ℤ, pos, ◌+ℤ◌, Bool, true, false, not, List, [], ◌∷◌, ◌++◌, map, replicate, arith}
-use Rattle.std.proofs.lemmas.Bool.{and_from, and_parts, or_left, or_right, eq-eqb}
+use Rattle.std.proofs.Common.{◌≡◌, ◌∙◌, sym, ap, refl, subst, ℕ, zero, suc, ◌+◌, ◌-◌, ◌<◌, length, ℤ, pos, ◌+ℤ◌, true, List, [], ◌∷◌, ◌++◌, map, replicate, arith}
+use Rattle.std.proofs.lemmas.Bool.{and_from, or_left, or_right, eq-eqb}
 use Rattle.std.proofs.lemmas.Option.{none-some, same_Some, slice_get_within}
 use Rattle.std.specs.Prelude.{Option, Some, Ok, slice_get, unwrap_or, nat_eq}
 use Rattle.std.specs.List.{AllByRecursion}
@@ -17,25 +17,20 @@ use Rattle.lint_core.specs.declared.database.Counter.{Counter}
 use Rattle.lint_core.specs.declared.database.Points.TheVariants.{One}
 use Rattle.lint_core.specs.declared.condition.Entry.{Entry}
 use Rattle.lint_core.specs.declared.query.Query.{Query}
-use Rattle.lint_core.specs.declared.query.Question.TheVariants.{Empty}
-use Rattle.lint_core.specs.declared.database.Binding.{Binding}
 use Rattle.lint_core.specs.Evaluation.{map_ok, all_ok}
-use Rattle.lint_core.specs.Points.{is_binding}
-use Rattle.lint_core.specs.Fits.{main_tables}
-use Rattle.lint_core.specs.Question.{where_truth, refutes}
 use Rattle.lint_core.specs.declared.schema.Column.{Column}
 use Rattle.lint_core.specs.declared.schema.Table.{Table}
-use Rattle.lint_core.specs.FirstForm.{Conjunct, conjunct_cond, where_cond, IsFirstForm, is_number, is_plain_column}
+use Rattle.lint_core.specs.FirstForm.{Conjunct, conjunct_cond, where_cond, IsFirstForm, is_plain_column}
 use Rattle.lint_core.specs.Database.{rows_of}
-use Rattle.lint_core.specs.Condition.{truth, is_true_at}
+use Rattle.lint_core.specs.Condition.{truth}
 use Rattle.lint_tables.specs.Operators.{is_related}
 use Rattle.lint_core.specs.Truth.{and_of}
 use Rattle.lint_core.specs.Meets.{values_meet, rows_meet, tables_meet, no_nulls, all_constraints_met}
-use Rattle.lint_core.specs.Answer.{IsRefuted}
-use Rattle.lint_core.proofs.Conditions.{truth_compare, truth_and, known}
+use Rattle.lint_engine.specs.Answer.{IsRefuted}
+use Rattle.lint_core.proofs.Conditions.{truth_compare, truth_and}
 use Rattle.lint_engine.specs.declared.comparison.Comparison.{Comparison}
 use Rattle.lint_engine.specs.Plan.{is_named, number_of, cells_of, one_row_in}
-use Rattle.lint_engine.proofs.Reading.{comparison_of_conjunct, comparisons_of}
+use Rattle.lint_engine.proofs.Reading.{comparison_of_conjunct, comparisons_of, plain_parts}
 use Rattle.lint_engine.proofs.Row.{IsRelated, named_cell}
 
 -- ---- the database
@@ -119,17 +114,10 @@ module _ (db : Database) (t : ℕ) (row : Row) (rows : rows_of db t ≡ row ∷ 
 
 -- ---- the constraints, of which there are none
 
-plain_parts : (c : Column) → is_plain_column c ≡ true → c.not_null ≡ false
-plain_parts c plain = not_null_is c.not_null (and_parts (is_number c.domain) (not c.not_null) plain).1
-  where
-    not_null_is : (b : Bool) → not b ≡ true → b ≡ false
-    not_null_is true h = cc
-    not_null_is false h = refl
-
 nulls_allowed : (cs : List Column) (vs : List Value) → AllByRecursion (λ column. is_plain_column column ≡ true) cs → no_nulls cs vs ≡ true
 nulls_allowed [] vs plain = refl
 nulls_allowed (c ∷ cs) [] plain = refl
-nulls_allowed (c ∷ cs) (v ∷ vs) plain = rw (plain_parts c plain.0, nulls_allowed cs vs plain.1) refl
+nulls_allowed (c ∷ cs) (v ∷ vs) plain = rw ((plain_parts c plain.0).1, nulls_allowed cs vs plain.1) refl
 
 no_constraints : (db : Database) (table : Table) (row : Row) → rows_of db 0 ≡ row ∷ [] → no_nulls table.columns row.values ≡ true →
     table.keys ≡ [] → table.checks ≡ [] → table.foreign ≡ [] → all_constraints_met db 0 (table ∷ []) ≡ true

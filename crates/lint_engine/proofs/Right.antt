@@ -17,13 +17,13 @@ use Rattle.lint_core.specs.declared.query.Query.{Query}
 use Rattle.lint_core.specs.declared.query.Question.TheVariants.{Empty}
 use Rattle.lint_core.specs.declared.schema.Column.{Column}
 use Rattle.lint_core.specs.declared.schema.Table.{Table}
-use Rattle.lint_core.specs.Answer.{IsCertified, IsRefuted}
-use Rattle.lint_core.specs.Certificate.{accepts}
+use Rattle.lint_engine.specs.Answer.{IsCertified, IsRefuted}
+use Rattle.sort_formula.specs.Certificate.{accepts}
+use Rattle.sort_formula.specs.Counters.{counter_sentence}
 use Rattle.lint_core.specs.FirstForm.{Conjunct, IsFirstForm, is_one_range, is_number, is_plain_column}
 use Rattle.lint_core.specs.Meets.{values_meet}
 use Rattle.lint_core.specs.Question.{HoldsAlways}
-use Rattle.lint_core.specs.Schema.{is_domain}
-use Rattle.lint_core.specs.Translation.{empty_counter}
+use Rattle.lint_core.specs.Schema.{is_domain, is_schema}
 use Rattle.diff_bounds.specs.Cycles.{IsNegativeCycle, IsSimple}
 use Rattle.diff_bounds.specs.System.{IsAmong, IsModerate, Holds, Satisfies, value_in}
 use Rattle.lint_engine.specs.declared.comparison.Comparison.{Comparison}
@@ -32,7 +32,7 @@ use Rattle.lint_engine.specs.Plan.{AreNumbers, IsNumber, AreNear, of_domains, of
 use Rattle.lint_engine.proofs.Branch.{all_append, opened, sentence_of, opening_accepted, all_stated}
 use Rattle.lint_engine.proofs.Cycle.{all_one_zero, cycle_contradicts, cycle_of_two}
 use Rattle.lint_engine.proofs.Judged.{IsRead, EdgeIsAmong, edges_all, edges_back, domains_among, comparisons_among_all, domains_moderate, comparisons_moderate, domains_few, comparisons_few}
-use Rattle.lint_engine.proofs.Reading.{comparisons_of, sentence_is}
+use Rattle.lint_engine.proofs.Reading.{comparisons_of, all_no_text, sentence_is, no_axioms}
 use Rattle.lint_engine.proofs.Refuted.{is_refuted}
 use Rattle.lint_engine.proofs.Known.{IsKnown, table_known}
 use Rattle.lint_engine.proofs.Stated.{IsStated}
@@ -123,27 +123,31 @@ module _ (schema : List Table) (query : Query) (entry : Entry) (table : Table) (
   pub two : (cycle : List ℕ) → IsNegativeCycle (edges_of plan) cycle → IsSimple (edges_of plan) cycle → length cycle ≡ 2
   two cycle negative simple = cycle_of_two plan cycle (all_one_zero columns comparisons) negative simple
 
-  sentence : empty_counter query ≡ sentence_of entry.table comparisons
-  sentence = rw read.comparisons_are (sentence_is query entry read.conjuncts read.one_entry read.form.filter)
+  sentence : counter_sentence schema query Empty Null ≡ sentence_of entry.table comparisons
+  sentence =
+      let plain = recursion_from_All (λ column. is_plain_column column ≡ true) table.columns read.form.plain_columns in
+      let numbers = all_no_text schema entry.table table read.of_table plain read.conjuncts read.columns_exist in
+      rw read.comparisons_are (sentence_is schema query entry read.conjuncts read.one_entry read.form.filter numbers)
 
   ring_accepted : (cycle : List ℕ) → IsNegativeCycle (edges_of plan) cycle → IsSimple (edges_of plan) cycle →
-      accepts schema (empty_counter query) (opening_steps comparisons ++ step.Sum (in_order (inequality_at plan (get_or cycle 0 0)) (inequality_at plan (get_or cycle 1 0))) ∷ []) ≡ true
+      accepts schema (counter_sentence schema query Empty Null) (opening_steps comparisons ++ step.Sum (in_order (inequality_at plan (get_or cycle 0 0)) (inequality_at plan (get_or cycle 1 0))) ∷ []) ≡ true
   ring_accepted cycle negative simple =
       let stated : AllByRecursion (IsStated schema (opened entry.table comparisons)) plan = rw read.columns_are (all_stated schema entry.table table comparisons read.of_table some_comparisons) in
-      rw sentence (opening_accepted schema entry.table comparisons (in_order (inequality_at plan (get_or cycle 0 0)) (inequality_at plan (get_or cycle 1 0))) some_comparisons
+      rw sentence (opening_accepted schema entry.table comparisons (in_order (inequality_at plan (get_or cycle 0 0)) (inequality_at plan (get_or cycle 1 0)))
+      (no_axioms schema query table read.conjuncts read.form) some_comparisons
       (cycle_contradicts schema read.known (opened entry.table comparisons) plan cycle stated (all_one_zero columns comparisons) negative (two cycle negative simple)))
 
   -- the law that accepted steps are right
   abbrev pub CertifiedHolds : Type 0
-  CertifiedHolds = (schema : List Table) (query : Query) (table : Table) (conjuncts : List Conjunct) → IsFirstForm schema query table conjuncts →
-      (steps : List Step) → accepts schema (empty_counter query) steps ≡ true → HoldsAlways schema query Empty Null
+  CertifiedHolds = (schema : List Table) → is_schema schema ≡ true → (query : Query) (table : Table) (conjuncts : List Conjunct) → IsFirstForm schema query table conjuncts →
+      (steps : List Step) → accepts schema (counter_sentence schema query Empty Null) steps ≡ true → HoldsAlways schema query Empty Null
 
   pub certified : (query_number : ℕ) (cycle : List ℕ) (cert : Cert) → CertifiedHolds →
       IsNegativeCycle (edges_of plan) cycle → IsSimple (edges_of plan) cycle → cert.query ≡ query_number → cert.question ≡ 1 → cert.value ≡ Null →
       cert.steps ≡ opening_steps comparisons ++ step.Sum (in_order (inequality_at plan (get_or cycle 0 0)) (inequality_at plan (get_or cycle 1 0))) ∷ [] → IsCertified schema query query_number 1 cert
   certified query_number cycle cert law negative simple query_is question_is value_is steps_are =
-      let yes : accepts schema (empty_counter query) cert.steps ≡ true = rw steps_are (ring_accepted cycle negative simple) in
-      record { names_query = query_is; names_question = question_is; no_value = value_is; accepted = yes; holds = law schema query table read.conjuncts read.form cert.steps yes }
+      let yes : accepts schema (counter_sentence schema query Empty Null) cert.steps ≡ true = rw steps_are (ring_accepted cycle negative simple) in
+      record { names_query = query_is; names_question = question_is; no_value = value_is; accepted = yes; holds = law schema read.known query table read.conjuncts read.form cert.steps yes }
 
   satisfied : (values : List ℤ) → Satisfies (value_in values) (edges_of plan) → AllByRecursion (IsSatisfied values) (of_domains 0 columns) × AllByRecursion (IsSatisfied values) (of_comparisons (first_fact comparisons) (first_fact comparisons + length comparisons) comparisons)
   satisfied values all =

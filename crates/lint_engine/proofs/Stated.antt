@@ -1,9 +1,10 @@
 -- When a name in a certificate states an edge's inequality.
 use Rattle.std.proofs.Common.{◌≡◌, ℕ, zero, suc, List, Some}
-use Rattle.lint_core.specs.declared.formula.Side.{Side}
-use Rattle.lint_core.specs.declared.formula.Side.TheVariants as side
+use Rattle.sort_formula.specs.declared.formula.Side.{Side}
+use Rattle.sort_formula.specs.declared.formula.Side.TheVariants as side
 use Rattle.lint_core.specs.declared.schema.Table.{Table}
-use Rattle.lint_core.specs.Certificate.{Branch, bound_of}
+use Rattle.sort_formula.specs.Facts.{Branch}
+use Rattle.sort_formula.specs.Rings.{bound_of}
 use Rattle.lint_engine.specs.declared.inequality.Inequality.{Inequality}
 
 -- the side that a variable stands for

@@ -10,8 +10,8 @@ use Rattle.lint_core.specs.declared.run.Answer.TheVariants.{Always, NotAlways}
 use Rattle.lint_core.specs.declared.schema.Table.{Table}
 use Rattle.lint_core.specs.Meets.{meets}
 use Rattle.lint_core.specs.Question.{refutes, HoldsAlways}
-use Rattle.lint_core.specs.Translation.{empty_counter}
-use Rattle.lint_core.specs.Certificate.{accepts}
+use Rattle.sort_formula.specs.Certificate.{accepts}
+use Rattle.sort_formula.specs.Counters.{counter_sentence}
 
 -- the certificate names its query and its question, has no value, and is accepted; the answer is empty in
 -- every database that meets the schema
@@ -19,7 +19,7 @@ pub record IsCertified (schema : List Table) (query : Query) (query_number quest
   pub names_query : cert.query ≡ query_number
   pub names_question : cert.question ≡ question_number
   pub no_value : cert.value ≡ Null
-  pub accepted : accepts schema (empty_counter query) cert.steps ≡ true
+  pub accepted : accepts schema (counter_sentence schema query Empty Null) cert.steps ≡ true
   pub holds : HoldsAlways schema query Empty Null
 
 -- the database meets the schema, and the answer is not empty in it, as the points show

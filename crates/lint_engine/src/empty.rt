@@ -1,16 +1,17 @@
 //! E1, "the answer is empty".
 ghost use Rattle.std.specs.Prelude.{◌≡◌, List, IfOk};
 ghost use Rattle.lint_core.specs.declared.schema.Table.{Table};
-ghost use Rattle.lint_core.specs.Answer.{IsRightAnswer};
+ghost use Rattle.lint_engine.specs.Answer.{IsRightAnswer};
 ghost use Rattle.lint_core.specs.FirstForm.{Conjunct, IsFirstForm};
 
 use crate::certificate::certificate;
 use crate::comparison::read_comparisons;
 use crate::counter::{counter, row};
 use crate::inequality::{edges_of, inequalities};
+use crate::laws::certified_question_holds;
 use diff_bounds::{Solved, solve};
 use lint_base::{Items, NoMemory};
-use lint_core::{Answer, Query, Schema, certified_question_holds};
+use lint_core::{Answer, Query, Schema};
 use std::alloc::Global;
 
 /// Whether the query's answer is empty in every database that meets the schema: a certificate of

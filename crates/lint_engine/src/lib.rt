@@ -1,10 +1,10 @@
 //! The judge: what holds of every query of the first form, with a certificate, and what does not,
 //! with a database that shows it.
 //!
-//! The layer above may use `judge_empty`. Of `specs/` a reader must believe nothing: `Plan` says
-//! what the functions build, and the contract of the judge, by `IsRightAnswer` of `lint_core`, says
-//! that it is right. A body that always answers `NoMemory` would meet that contract too, since no
-//! contract can say how much memory is left: the tests show that there are answers.
+//! The layer above may use `judge_empty`. Of `specs/` a reader must believe `Answer`: when an answer of the
+//! judge is right. `Plan` says what the functions build, and need not be believed. A body that always
+//! answers `NoMemory` would meet the judge's contract too, since no contract can say how much memory is left: the
+//! tests show that there are answers.
 #![tactic(auto)]
 
 mod certificate;
@@ -12,6 +12,7 @@ mod comparison;
 mod counter;
 mod empty;
 mod inequality;
+mod laws;
 #[cfg(test)]
 mod tests;
 

@@ -9,7 +9,7 @@ use Rattle.lint_core.specs.declared.run.Answer.{Answer}
 use Rattle.lint_core.specs.declared.run.QueryResult.{QueryResult}
 use Rattle.lint_core.specs.declared.run.QueryResult.TheVariants.{Refused, Answered}
 use Rattle.lint_core.specs.declared.run.QueryRun.{QueryRun}
-use Rattle.lint_core.specs.Answer.{IsRightAnswer}
+use Rattle.lint_engine.specs.Answer.{IsRightAnswer}
 use Rattle.lint_core.specs.FirstForm.{is_first_form}
 use Rattle.sql_lex.specs.Pieces.{pieces}
 use Rattle.sqllint.specs.TextReading.{ReadsQuery, RefusesQuery}

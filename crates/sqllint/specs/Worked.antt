@@ -1,11 +1,14 @@
 -- Runs whose texts are known by hand: a query that is empty, one that is not, one of which nothing is asked, two that
--- are refused, and a schema that is refused.
-use Rattle.std.specs.Prelude.{ℕ, pos, ◌≡◌, List, [], ◌∷◌, Some, None, codes, encode_utf8_all}
+-- are refused, and a schema that is refused; and the steps of every kind.
+use Rattle.std.specs.Prelude.{ℕ, pos, true, false, ◌≡◌, List, [], ◌∷◌, Some, None, codes, encode_utf8_all}
 use Rattle.lint_base.specs.declared.place.Span.{Span}
 use Rattle.lint_base.specs.declared.place.Fault.TheVariants.{UnknownColumn, Long, NotAKey}
 use Rattle.lint_core.specs.declared.schema.Table.{Table}
+use Rattle.lint_core.specs.declared.certificate.SameEdge.{SameEdge}
+use Rattle.lint_core.specs.declared.certificate.Step.{Step}
 use Rattle.lint_core.specs.declared.certificate.Step.TheVariants as step
 use Rattle.lint_core.specs.declared.certificate.SumEdge.TheVariants as edge
+use Rattle.lint_core.specs.declared.certificate.TextEdge.TheVariants as link
 use Rattle.lint_core.specs.declared.certificate.Cert.{Cert}
 use Rattle.lint_core.specs.declared.database.Value.TheVariants as value
 use Rattle.lint_core.specs.declared.database.Points.TheVariants.{One}
@@ -17,7 +20,7 @@ use Rattle.lint_core.specs.declared.run.Answer.TheVariants.{Always, NotAlways}
 use Rattle.lint_core.specs.declared.run.QueryResult.TheVariants.{Refused, Answered}
 use Rattle.lint_core.specs.declared.run.Run.{Run}
 use Rattle.sqllint.specs.declared.outcome.Stop.TheVariants as stop
-use Rattle.sqllint.specs.Text.{run_text}
+use Rattle.sqllint.specs.Text.{run_text, steps_text}
 
 abbrev pub from_to : ℕ → ℕ → Span
 from_to from to = record { from = from; to = to }
@@ -46,6 +49,24 @@ contradiction =
       value = value.Null;
       steps = step.Ex 0 ∷ step.And 1 ∷ step.Sum (edge.Fact 2 ∷ edge.Fact 3 ∷ []) ∷ [];
     }
+
+-- a part of a path, taken forth and back
+abbrev pub forth : ℕ → SameEdge
+forth fact = record { fact = fact; back = false }
+
+abbrev pub back : ℕ → SameEdge
+back fact = record { fact = fact; back = true }
+
+-- each kind of step, with each kind of edge
+abbrev pub every_step : List Step
+every_step =
+    step.And 1 ∷ step.Or 2 ∷ step.Ex 3 ∷ step.All 4 0
+    ∷ step.Sum (edge.Fact 5 ∷ edge.Low 0 1 ∷ edge.High 0 2 ∷ edge.Same 6 3 ∷ edge.Back 7 4 ∷ [])
+    ∷ step.Text None (link.Fact 8 ∷ link.FactBack 9 ∷ link.Same 10 5 ∷ link.Back 11 6 ∷ [])
+    ∷ step.Text (Some 12) []
+    ∷ step.Null 13 14 (forth 15 ∷ back 16 ∷ [])
+    ∷ step.Same 17 []
+    ∷ []
 
 -- one row, 6 and NULL
 abbrev pub six : Counter
@@ -81,3 +102,8 @@ LongText =
 abbrev pub SchemaRefusedText : Type 0
 SchemaRefusedText =
     (run : Run) → run_text (Some (stop.SchemaRefused (record { fault = NotAKey; span = from_to 26 38; count = 0 }))) run ≡ codes "stop SchemaRefused 26 NotAKey at 26..38\n"
+
+abbrev pub StepsText : Type 0
+StepsText =
+    steps_text every_step
+    ≡ codes "[[\"and\",1],[\"or\",2],[\"ex\",3],[\"all\",4,0],[\"sum\",[[0,5],[1,0,1],[2,0,2],[3,6,3],[4,7,4]]],[\"text\",null,[[0,8],[1,9],[2,10,5],[3,11,6]]],[\"text\",12,[]],[\"null\",13,14,[[0,15],[1,16]]],[\"same\",17,[]]]"
