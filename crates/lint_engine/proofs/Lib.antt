@@ -4,9 +4,7 @@ pub mod Stated
 pub mod Ring
 pub mod Branch
 pub mod Reading
-pub mod Truths
 pub mod Failures
-pub mod Certified
 pub mod Questions
 pub mod Row
 pub mod Refuted

@@ -1,6 +1,6 @@
 -- Accepted steps show the question, for every query that fits: from what they show of their sentence, and from what
 -- the formula of a condition says.
-use Rattle.std.proofs.Common.{◌≡◌, ◌∙◌, sym, ap, refl, subst, ℕ, zero, suc, ◌+◌, ◌<◌, ◌≤◌, true, false, ◌&&◌, inl, inr, List, [], ◌∷◌, ◌++◌, length, add-one, arith}
+use Rattle.std.proofs.Common.{◌≡◌, ◌∙◌, sym, ap, refl, subst, ℕ, zero, suc, ◌+◌, ◌<◌, ◌≤◌, Bool, true, false, ◌&&◌, inl, inr, List, [], ◌∷◌, ◌++◌, length, add-one, arith}
 use Rattle.std.proofs.lemmas.Bool.{and_parts, cases_lt}
 use Rattle.std.proofs.lemmas.List.{length-map, length-append, append-nil}
 use Rattle.std.proofs.lemmas.Option.{slice_get-map, slice_get_past}
@@ -33,8 +33,14 @@ use Rattle.sort_formula.specs.Holds.{holds}
 use Rattle.sort_formula.specs.Sides.{Scope, scope_of, from_number}
 use Rattle.sort_formula.specs.Standpoint.{StandsFor}
 use Rattle.sort_formula.specs.Translation.{is_true_formula}
-use Rattle.lint_engine.proofs.Certified.{false_from, both_ways}
 use Rattle.lint_engine.proofs.Failures.{tables_at, rows_at, Agrees, refuted_says}
+
+false_from : (b : Bool) → (b ≡ true → ⊥) → b ≡ false
+false_from true never = absurd (never refl)
+false_from false never = refl
+
+both_ways : (b : Bool) → b ≡ true → b ≡ false → ⊥
+both_ways b holding failing = cc
 
 -- ---- a binding of the entries, and the rows of their variables
 

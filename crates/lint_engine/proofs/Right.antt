@@ -20,6 +20,7 @@ use Rattle.lint_core.specs.declared.schema.Table.{Table}
 use Rattle.lint_engine.specs.Answer.{IsCertified, IsRefuted}
 use Rattle.sort_formula.specs.Certificate.{accepts}
 use Rattle.sort_formula.specs.Counters.{counter_sentence}
+use Rattle.lint_core.specs.Fits.{query_fits}
 use Rattle.lint_core.specs.FirstForm.{Conjunct, IsFirstForm, is_one_range, is_number, is_plain_column}
 use Rattle.lint_core.specs.Meets.{values_meet}
 use Rattle.lint_core.specs.Question.{HoldsAlways}
@@ -139,15 +140,15 @@ module _ (schema : List Table) (query : Query) (entry : Entry) (table : Table) (
 
   -- the law that accepted steps are right
   abbrev pub CertifiedHolds : Type 0
-  CertifiedHolds = (schema : List Table) → is_schema schema ≡ true → (query : Query) (table : Table) (conjuncts : List Conjunct) → IsFirstForm schema query table conjuncts →
+  CertifiedHolds = (schema : List Table) → is_schema schema ≡ true → (query : Query) → query_fits schema query ≡ true →
       (steps : List Step) → accepts schema (counter_sentence schema query Empty Null) steps ≡ true → HoldsAlways schema query Empty Null
 
-  pub certified : (query_number : ℕ) (cycle : List ℕ) (cert : Cert) → CertifiedHolds →
+  pub certified : (query_number : ℕ) (cycle : List ℕ) (cert : Cert) → CertifiedHolds → query_fits schema query ≡ true →
       IsNegativeCycle (edges_of plan) cycle → IsSimple (edges_of plan) cycle → cert.query ≡ query_number → cert.question ≡ 1 → cert.value ≡ Null →
       cert.steps ≡ opening_steps comparisons ++ step.Sum (in_order (inequality_at plan (get_or cycle 0 0)) (inequality_at plan (get_or cycle 1 0))) ∷ [] → IsCertified schema query query_number 1 cert
-  certified query_number cycle cert law negative simple query_is question_is value_is steps_are =
+  certified query_number cycle cert law fits negative simple query_is question_is value_is steps_are =
       let yes : accepts schema (counter_sentence schema query Empty Null) cert.steps ≡ true = rw steps_are (ring_accepted cycle negative simple) in
-      record { names_query = query_is; names_question = question_is; no_value = value_is; accepted = yes; holds = law schema read.known query table read.conjuncts read.form cert.steps yes }
+      record { names_query = query_is; names_question = question_is; no_value = value_is; accepted = yes; holds = law schema read.known query fits cert.steps yes }
 
   satisfied : (values : List ℤ) → Satisfies (value_in values) (edges_of plan) → AllByRecursion (IsSatisfied values) (of_domains 0 columns) × AllByRecursion (IsSatisfied values) (of_comparisons (first_fact comparisons) (first_fact comparisons + length comparisons) comparisons)
   satisfied values all =

@@ -1,8 +1,9 @@
 //! E1, "the answer is empty".
-ghost use Rattle.std.specs.Prelude.{◌≡◌, List, IfOk};
+ghost use Rattle.std.specs.Prelude.{◌≡◌, true, List, IfOk};
 ghost use Rattle.lint_core.specs.declared.schema.Table.{Table};
 ghost use Rattle.lint_engine.specs.Answer.{IsRightAnswer};
 ghost use Rattle.lint_core.specs.FirstForm.{Conjunct, IsFirstForm};
+ghost use Rattle.lint_core.specs.Fits.{query_fits};
 
 use crate::certificate::certificate;
 use crate::comparison::read_comparisons;
@@ -25,7 +26,8 @@ pub fn judge_empty(
     query: &Query,
     number: u32,
 ) -> Result<Answer, NoMemory>
-    requires { (table : Table) × (conjuncts : List Conjunct) × IsFirstForm schema.now query.now table conjuncts }
+    requires fits { query_fits schema.now query.now ≡ true }
+    requires first_form { (table : Table) × (conjuncts : List Conjunct) × IsFirstForm schema.now query.now table conjuncts }
     ensures { IfOk result (λ answer. IsRightAnswer schema.now query.now number 1 answer) }
 {
     certified_question_holds();

@@ -1,7 +1,8 @@
 //! The judge: what holds of every query of the first form, with a certificate, and what does not,
 //! with a database that shows it.
 //!
-//! The layer above may use `judge_empty`. Of `specs/` a reader must believe `Answer`: when an answer of the
+//! The layer above may use `judge_empty`. The law `certified_question_holds` says of every query that fits what an
+//! accepted certificate of E1 shows. Of `specs/` a reader must believe `Answer`: when an answer of the
 //! judge is right. `Plan` says what the functions build, and need not be believed. A body that always
 //! answers `NoMemory` would meet the judge's contract too, since no contract can say how much memory is left: the
 //! tests show that there are answers.
@@ -17,3 +18,4 @@ mod laws;
 mod tests;
 
 pub use empty::judge_empty;
+pub use laws::certified_question_holds;

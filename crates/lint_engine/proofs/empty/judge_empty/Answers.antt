@@ -29,7 +29,7 @@ same_tables schema schema' t t' row tables numbers = rw (tables, numbers) refl
 read : (c : After-deref) → IsRead c.args.schema.now c.args.query.now c.index-as_slice-0.result c.index-tables-table.result c.as_slice-columns.result.now c.deref.result.now
 read c =
     is_read c.args.schema.now c.as_slice-tables.result.now c.args.query.now c.as_slice.result.now c.index-as_slice-0.result c.index-tables-table.result c.as_slice-columns.result.now c.deref.result.now
-    c.requires c.tables.ensures.schema (c.as_slice-tables.ensures ∙ c.tables.ensures.tables) c.as_slice.ensures
+    c.requires.first_form c.tables.ensures.schema (c.as_slice-tables.ensures ∙ c.tables.ensures.tables) c.as_slice.ensures
     c.index-as_slice-0.is c.index-tables-table.is c.as_slice-columns.ensures (c.deref.ensures.value ∙ c.in_ok-comparisons.ensures)
 
 pub inequalities-requires-clause-comparisons : goal.inequalities-requires-clause-comparisons
@@ -73,7 +73,7 @@ returns-in-Cycle c =
     let d = (goal.at.returns-in-Cycle c).After-deref-3 in
     let plan_cycle : IsNegativeCycle c.deref-3.result.now c.in-Cycle.cycle = rw c.in-Cycle.is at c.in_ok-cycle.ensures.cycle in
     let plan_simple : IsSimple c.deref-3.result.now c.in-Cycle.cycle = rw c.in-Cycle.is at c.in_ok-cycle.ensures.simple in
-    certified _ _ _ _ _ _ (read (goal.at.returns-in-Cycle c).After-deref) c.args.number c.in-Cycle.cycle c.in_ok-cert-in-Cycle.cert c.certified_question_holds.ensures
+    certified _ _ _ _ _ _ (read (goal.at.returns-in-Cycle c).After-deref) c.args.number c.in-Cycle.cycle c.in_ok-cert-in-Cycle.cert c.certified_question_holds.ensures c.requires.fits
     (subst (λ (es : List Edge). IsNegativeCycle es c.in-Cycle.cycle) (edges_are d) plan_cycle) (subst (λ (es : List Edge). IsSimple es c.in-Cycle.cycle) (edges_are d) plan_simple)
     c.in_ok-cert-in-Cycle.ensures.query c.in_ok-cert-in-Cycle.ensures.question c.in_ok-cert-in-Cycle.ensures.value
     (c.in_ok-cert-in-Cycle.ensures.steps
