@@ -55,7 +55,7 @@ fn answered(
 }
 
 /// The schema that a text declares, or why it declares none.
-fn schema_of(alloc: Global, text: &[u8]) -> Result<Schema, TextStop>
+pub(crate) fn schema_of(alloc: Global, text: &[u8]) -> Result<Schema, TextStop>
     requires { length text.now ≤ 1048576 }
     ensures read { IfOk result (λ schema. ReadsSchema text.now schema) }
     ensures refused { IfErr result (λ stop. StopsSchema text.now stop) }
@@ -70,7 +70,12 @@ fn schema_of(alloc: Global, text: &[u8]) -> Result<Schema, TextStop>
 }
 
 /// The query that a piece of a text is, or why it is none.
-fn query_of(alloc: Global, schema: &Schema, text: &[u8], piece: Span) -> Result<Query, TextStop>
+pub(crate) fn query_of(
+    alloc: Global,
+    schema: &Schema,
+    text: &[u8],
+    piece: Span,
+) -> Result<Query, TextStop>
     requires short { length text.now ≤ 1048576 }
     requires within { IsWithin (length text.now) piece }
     ensures read { IfOk result (λ query. ReadsQuery schema.now text.now piece query) }
