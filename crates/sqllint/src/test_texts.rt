@@ -1,9 +1,11 @@
 //! Schemas, queries, databases and points from texts, for the tests.
+ghost use Rattle.std.specs.Prelude.{◌≡◌, true, IfOk};
+ghost use Rattle.lint_core.specs.Fits.{query_fits};
+
 use crate::reading::{query_of, schema_of};
 use At::{One, Two, Without};
-use lint_base::{Items, NoMemory, Str};
+use lint_base::{Items, NoMemory, Span, Str};
 use lint_core::{Binding, Database, Points, Query, Row, Schema, Value};
-use sql_lex::split_queries;
 use std::alloc::Global;
 use std::test::Fail;
 
@@ -33,18 +35,21 @@ pub(crate) fn schema(alloc: Global, text: &str) -> Result<Schema, Fail> {
     }
 }
 
-pub(crate) fn query(alloc: Global, schema: &Schema, text: &str) -> Result<Query, Fail> {
+pub(crate) fn query(alloc: Global, schema: &Schema, text: &str) -> Result<Query, Fail>
+    ensures { IfOk result (λ query. query_fits schema.now query ≡ true) }
+{
     let bytes = text.as_bytes();
-    if bytes.len() > 1_048_576 {
-        return Err(Fail::new("a long query"));
+    if bytes.is_empty() || bytes.len() > 1_048_576 {
+        return Err(Fail::new("an empty or a long query"));
     }
-    for piece in split_queries(bytes) {
-        return match query_of(alloc, schema, bytes, piece) {
-            Ok(query) => Ok(query),
-            Err(_) => Err(Fail::new("a refused query")),
-        };
+    let whole = Span {
+        from: 0,
+        to: bytes.len() as u32,
+    };
+    match query_of(alloc, schema, bytes, whole) {
+        Ok(query) => Ok(query),
+        Err(_) => Err(Fail::new("a refused query")),
     }
-    Err(Fail::new("no query"))
 }
 
 pub(crate) fn value(alloc: Global, word: &str) -> Result<Value, NoMemory> {
