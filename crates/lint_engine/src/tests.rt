@@ -98,7 +98,7 @@ fn select(alloc: Global, cond: Cond, span: Span) -> Result<Query, NoMemory> {
     })
 }
 
-/// The answer to the query with this condition, the seventh of its file, where it is of the first form.
+/// The answer to the query with this condition, the seventh of its file, where it fits and is of the first form.
 fn judge(
     alloc: Global,
     schema: &Schema,
@@ -107,7 +107,7 @@ fn judge(
 ) -> Result<Option<Answer>, NoMemory> {
     first_form_is_tested();
     let query = select(alloc, cond, span)?;
-    if query.is_first_form(schema) {
+    if query.fits(schema) && query.is_first_form(schema) {
         Ok(Some(judge_empty(alloc, schema, &query, 7)?))
     } else {
         Ok(None)
