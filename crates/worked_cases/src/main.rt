@@ -7,6 +7,7 @@
 #![tactic(auto)]
 
 mod bound;
+mod empties;
 mod formulas;
 mod lexing;
 mod meaning;

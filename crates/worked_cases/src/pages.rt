@@ -8,9 +8,10 @@
 //! - `tables`, `bound`: the bound form of the page's schema, and of its query;
 //! - `truth`, `meets`: the truth of the query's condition at a binding, and what the schema's first violation is;
 //! - `asked`, `refutes`: the questions that are asked of the query, and whether points refute one;
-//! - `axiom`, `holds`, `fails`: an axiom of the schema, and the formulas of the query's condition.
+//! - `axiom`, `holds`, `fails`: an axiom of the schema, and the formulas of the query's condition;
+//! - `empty`: whether the query's answer is always empty.
 use crate::texts::{query, schema, shown_stop};
-use crate::{bound, formulas, lexing, meaning, questions, trees};
+use crate::{bound, empties, formulas, lexing, meaning, questions, trees};
 use lint_base::{NoMemory, TextStop};
 use lint_core::{Query, Schema};
 use std::alloc::Global;
@@ -104,6 +105,7 @@ impl Page {
         match word {
             "bound" => bound::query(alloc, query),
             "truth" => meaning::truth(alloc, schema, query, text),
+            "empty" => empties::judged(alloc, schema, query),
             "asked" => questions::asked(alloc, schema, query),
             "refutes" => questions::outcome(alloc, schema, query, text),
             "holds" => formulas::condition(alloc, schema, query, true),
