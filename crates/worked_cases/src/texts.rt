@@ -1,4 +1,6 @@
 //! Schemas, queries, databases and points from texts.
+ghost use Rattle.std.specs.Prelude.{◌<◌, ◌^◌, length, IfOk};
+
 use lint_base::{Items, NoMemory, Refusal, Span, Str, TextStop};
 use lint_core::{Binding, Database, Points, Query, Row, Schema, Value};
 use sql_bind::{bind_query, bind_schema};
@@ -11,7 +13,9 @@ use std::alloc::Global;
 const TEXT_LIMIT: usize = 1_048_576;
 
 /// The tokens of a text. A text above the limit has none.
-fn tokens(alloc: Global, text: &str) -> Result<Vec<Token>, TextStop> {
+fn tokens(alloc: Global, text: &str) -> Result<Vec<Token>, TextStop>
+    ensures { IfOk result (λ tokens. length tokens.items < 2 ^ 32) }
+{
     let bytes = text.as_bytes();
     if bytes.len() > TEXT_LIMIT {
         return Ok(Vec::new(alloc));
