@@ -13,17 +13,11 @@
 #![tactic(auto)]
 
 #[cfg(test)]
-mod asked_tests;
-#[cfg(test)]
 mod formula_tests;
 mod host;
 mod laws;
-#[cfg(test)]
-mod meaning_tests;
 mod outcome;
 mod program;
-#[cfg(test)]
-mod question_tests;
 mod reading;
 mod report;
 #[cfg(test)]
