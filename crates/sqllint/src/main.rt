@@ -14,8 +14,6 @@
 
 #[cfg(test)]
 mod asked_tests;
-#[cfg(test)]
-mod formula_tests;
 mod host;
 mod laws;
 #[cfg(test)]
