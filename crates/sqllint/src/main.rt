@@ -12,16 +12,12 @@
 //! question in place of the question that is printed.
 #![tactic(auto)]
 
-#[cfg(test)]
-mod formula_tests;
 mod host;
 mod laws;
 mod outcome;
 mod program;
 mod reading;
 mod report;
-#[cfg(test)]
-mod test_texts;
 #[cfg(test)]
 mod tests;
 mod words;
