@@ -25,6 +25,3 @@ pub use lexer::lex;
 pub use pieces::Pieces;
 pub use split::split_queries;
 pub use token::{Kind, Sign, Token};
-
-#[cfg(test)]
-mod lex_tests;
