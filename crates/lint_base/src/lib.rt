@@ -31,6 +31,3 @@ pub use sink::{Sink, write_text};
 pub use stops::{ReadStop, WriteStop};
 pub use text::Str;
 pub use trace::Trace;
-
-#[cfg(test)]
-mod tests;

@@ -5,7 +5,7 @@
 //! accepted certificate of E1 shows. Of `specs/` a reader must believe `Answer`: when an answer of the
 //! judge is right. `Plan` says what the functions build, and need not be believed. A body that always
 //! answers `NoMemory` would meet the judge's contract too, since no contract can say how much memory is left: the
-//! tests show that there are answers.
+//! cases of `worked_cases` show that there are answers.
 #![tactic(auto)]
 
 mod certificate;
@@ -14,8 +14,6 @@ mod counter;
 mod empty;
 mod inequality;
 mod laws;
-#[cfg(test)]
-mod tests;
 
 pub use empty::judge_empty;
 pub use laws::certified_question_holds;

@@ -44,6 +44,12 @@ pub bound_parts : (g : Formula) (parts : List Formula) (tables : List ℕ) → (
 bound_parts g parts tables (inl is_and) = ap (λ g. is_bound g tables) is_and ∙ test_and atom_is_bound (λ table. true) parts tables
 bound_parts g parts tables (inr is_or) = ap (λ g. is_bound g tables) is_or ∙ test_or atom_is_bound (λ table. true) parts tables
 
+pub bound_atom : (a : Atom) (tables : List ℕ) → is_bound (f.Atom a) tables ≡ atom_is_bound tables a
+bound_atom = test_atom atom_is_bound (λ table. true)
+
+pub bound_exists : (table : ℕ) (body : Formula) (tables : List ℕ) → is_bound (f.Exists table body) tables ≡ is_bound body (tables ++ table ∷ [])
+bound_exists = test_exists atom_is_bound (λ table. true)
+
 module _ (schema : List Table) where
   abbrev is_table : ℕ → Bool
   is_table table = nat_lt table (length schema)

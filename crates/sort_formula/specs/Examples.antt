@@ -1,10 +1,12 @@
--- Sentences that a key and two texts refute, and the steps that do it, for the law `worked_steps`.
-use Rattle.std.specs.Prelude.{ℕ, pos, false, List, [], ◌∷◌, None}
+-- Sentences that a key and two texts refute, and the steps that do it, for the law `worked_steps`. A comparison and a
+-- schema, for the law `worked_sentences`.
+use Rattle.std.specs.Prelude.{ℕ, ℤ, pos, neg_ℤ, false, List, [], ◌∷◌, None}
 use Rattle.lint_core.specs.declared.certificate.SumEdge.TheVariants as edge
 use Rattle.lint_core.specs.declared.certificate.TextEdge.TheVariants as text
 use Rattle.lint_core.specs.declared.certificate.Step.{Step}
 use Rattle.lint_core.specs.declared.certificate.Step.TheVariants as step
-use Rattle.lint_core.specs.declared.schema.Domain.TheVariants.{Text}
+use Rattle.lint_core.specs.declared.schema.Domain.TheVariants.{Number, Text}
+use Rattle.lint_core.specs.declared.schema.Unit.TheVariants.{Whole}
 use Rattle.lint_core.specs.declared.schema.Table.{Table}
 use Rattle.sort_formula.specs.declared.formula.Side.TheVariants as side
 use Rattle.sort_formula.specs.declared.formula.Atom.TheVariants as atom
@@ -59,3 +61,21 @@ is_both one other =
 -- from the one text to the column and on to the other
 abbrev pub refuted_by_texts : List Step
 refuted_by_texts = step.Ex 0 ∷ step.And 1 ∷ step.Text None (text.FactBack 2 ∷ text.Fact 3 ∷ []) ∷ []
+
+-- ---- sentences
+
+-- the number in this column of the outermost row is at most this
+abbrev pub at_most : ℕ → ℤ → Formula
+at_most column most = f.Atom (atom.Le (side.Cell 0 column) side.Zero most)
+
+-- a table of a SMALLINT column and a VARCHAR column
+abbrev pub mixed : List Table
+mixed = record {
+  name = [];
+  columns =
+      record { name = []; domain = Number (neg_ℤ (pos 32768)) (pos 32767) Whole; not_null = false }
+      ∷ record { name = []; domain = Text 9; not_null = false } ∷ [];
+  keys = [];
+  checks = [];
+  foreign = [];
+} ∷ []

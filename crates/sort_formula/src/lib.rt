@@ -19,8 +19,6 @@ mod negation;
 mod outside;
 mod placing;
 mod sentence;
-#[cfg(test)]
-mod tests;
 mod worked;
 
 pub use formula::{Atom, Formula, Side};
@@ -28,4 +26,4 @@ pub use laws::{accepted_steps_refute, negation_complements, placing_renames};
 pub use negation::negate;
 pub use placing::place;
 pub use sentence::Sentence;
-pub use worked::{worked_formulas, worked_steps};
+pub use worked::{worked_formulas, worked_rewritings, worked_sentences, worked_steps};

@@ -25,10 +25,3 @@ mod terms;
 
 pub use queries::bind_query;
 pub use schemas::bind_schema;
-
-#[cfg(test)]
-mod query_tests;
-#[cfg(test)]
-mod schema_tests;
-#[cfg(test)]
-mod test_trees;

@@ -175,11 +175,7 @@ fn limited_query(
 
 /// A query over tables.
 #[tactic(auto, using(crate::proofs::LevelTables::seen_outside), unfolding(crate::specs::Bound::and_then))]
-pub(crate) fn bound_query(
-    alloc: Global,
-    tables: &[Table],
-    tree: &QueryTree,
-) -> Result<Query, TextStop>
+fn bound_query(alloc: Global, tables: &[Table], tree: &QueryTree) -> Result<Query, TextStop>
     ensures { Gives (bind_query tables.now tree.now) result }
 {
     let select = bind_select(alloc, tables, &tree.select, &Levels::Outside)?;

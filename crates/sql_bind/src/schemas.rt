@@ -394,7 +394,7 @@ fn second_pass(
 
 /// The tables that these declarations bind to.
 #[tactic(auto, unfolding(crate::specs::Bound::and_then))]
-pub(crate) fn bind_all(alloc: Global, trees: &[CreateTable]) -> Result<Items<Table>, TextStop>
+fn bind_all(alloc: Global, trees: &[CreateTable]) -> Result<Items<Table>, TextStop>
     ensures { Gives (spec.bind_schema trees.now) result }
 {
     let outlines = bind_outlines(alloc, trees)?;

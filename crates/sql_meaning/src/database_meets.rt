@@ -155,6 +155,3 @@ pub fn violations_are_failures()
     ensures { (schema : List Table) (database : Database) → database_fits schema database ≡ true
         → is_none (first_violation schema database) ≡ meets schema database }
 {}
-
-#[cfg(test)]
-mod tests;

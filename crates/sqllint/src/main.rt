@@ -12,22 +12,12 @@
 //! question in place of the question that is printed.
 #![tactic(auto)]
 
-#[cfg(test)]
-mod asked_tests;
-#[cfg(test)]
-mod formula_tests;
 mod host;
 mod laws;
-#[cfg(test)]
-mod meaning_tests;
 mod outcome;
 mod program;
-#[cfg(test)]
-mod question_tests;
 mod reading;
 mod report;
-#[cfg(test)]
-mod test_texts;
 #[cfg(test)]
 mod tests;
 mod words;

@@ -12,6 +12,7 @@ mod formulas;
 mod lexing;
 mod meaning;
 mod pages;
+mod placing;
 mod questions;
 mod texts;
 mod trees;

@@ -9,6 +9,8 @@
 //! - `truth`, `meets`: the truth of the query's condition at a binding, and what the schema's first violation is;
 //! - `asked`, `refutes`: the questions that are asked of the query, and whether points refute one;
 //! - `axiom`, `holds`, `fails`: an axiom of the schema, and the formulas of the query's condition;
+//! - `negated`, `placed`, `sentence`: of the formula that holds, its negation, the same in another place, and how many
+//!   nodes it has as a sentence;
 //! - `empty`: whether the query's answer is always empty.
 use crate::texts::{query, schema, shown_stop};
 use crate::{bound, empties, formulas, lexing, meaning, questions, trees};
@@ -110,6 +112,9 @@ impl Page {
             "refutes" => questions::outcome(alloc, schema, query, text),
             "holds" => formulas::condition(alloc, schema, query, true),
             "fails" => formulas::condition(alloc, schema, query, false),
+            "negated" => formulas::negated(alloc, schema, query),
+            "placed" => formulas::placed(alloc, schema, query, text),
+            "sentence" => formulas::sentence(alloc, schema, query, text),
             _ => Ok(String::from_str(alloc, "no such word")?),
         }
     }
