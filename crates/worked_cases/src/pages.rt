@@ -1,6 +1,6 @@
 //! Pages of cases. A line `WORD TEXT => ANSWER` asks what the word says of the text; a line without `=>` is answered
-//! by `read`. Empty lines and lines that begin with `#` say nothing. In a text `\n` is the end of a line, and
-//! `{3:ab}` is `ababab`.
+//! by `read`, and an answer that ends in `...` says how what comes begins. Empty lines and lines that begin with `#`
+//! say nothing. In a text `\n` is the end of a line, and `{3:ab}` is `ababab`.
 //!
 //! - `schema`, `query`: from here on the schema, or the query, of the page;
 //! - `tokens`, `pieces`: the tokens of a text, and the pieces of a query file;
@@ -148,11 +148,19 @@ fn came(alloc: Global, page: &mut Page, left: &str) -> Result<String, NoMemory> 
     page.answer(alloc, word, text.as_str())
 }
 
+/// Whether an answer is what a line says. A line that ends in `...` says how the answer begins.
+fn is_as_said(came: &str, said: &str) -> bool {
+    match said.strip_suffix("...") {
+        Some(beginning) => came.starts_with(beginning),
+        None => came == said,
+    }
+}
+
 /// A line is judged.
 fn judge(alloc: Global, page: &mut Page, line: &str, found: &mut Found) -> Result<(), NoMemory> {
     let (left, expected) = line.split_once(" => ").unwrap_or((line, "read"));
     let came = came(alloc, page, left)?;
-    if came.as_str() == expected {
+    if is_as_said(came.as_str(), expected) {
         found.right = found.right.saturating_add(1);
     } else {
         let shown = format!(in alloc; "{line}\n  but {}\n", came.as_str())?;
