@@ -3,6 +3,9 @@
 //! The layer above may use `axioms`. Of `specs/` a reader must believe `Spoken`; which sentences they are is `Axioms`
 //! of `sort_formula`. The law `axioms_are_the_constraints` says what they are for, and `accepted_sentence_fails` what
 //! an accepted certificate shows.
+//!
+//! Of wrong bodies the contracts let through only those that answer `NoMemory` though there is memory, since no clause
+//! can say when memory ends: the cases of `worked_cases` show that the axioms are made.
 #![tactic(auto)]
 
 mod axiom;

@@ -10,6 +10,7 @@ pub mod Described
 pub mod Parted
 mod Levels
 mod Fitting
+mod FitParts
 mod PlainWords
 mod FirstForms
 mod MeaningLaws

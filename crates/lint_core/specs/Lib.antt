@@ -27,3 +27,5 @@ pub mod Connectives
 pub mod SubqueryValues
 pub mod SameRows
 pub mod Examples
+pub mod SchemaExamples
+pub mod FitExamples

@@ -5,6 +5,9 @@
 //! `conjuncts`, `replaced`, `scalar_subquery` and `not_in_subquery`. Of `specs/` a reader must believe
 //! `Violations` (in which order violations come) and `Stops` (what an answer says), and for the walks `Behind`,
 //! `subquery_of` in `Reached` and `constant` in `Replacing`; the rest is defined in lint_core.
+//!
+//! Of wrong bodies the contracts let through only those that answer `NoMemory` though there is memory, also private ones
+//! that need none, since no clause can say when memory ends: the cases of `worked_cases` show that there are answers.
 #![tactic(auto)]
 
 mod clauses;

@@ -5,6 +5,9 @@
 //! `Loose` there. The law `formulas_say_truth`
 //! says what they are for, `formulas_fit` that they fit the schema, and `loose_reading_agrees` that points refute a
 //! question by the formulas where they refute it by the truths.
+//!
+//! Of wrong bodies the contracts let through only those that answer `NoMemory` though there is memory, since no clause
+//! can say when memory ends: the cases of `worked_cases` show that both formulas are made.
 #![tactic(auto)]
 
 mod laws;
