@@ -1,5 +1,6 @@
 //! The formulas of conditions, and the axioms of schemas.
-ghost use Rattle.std.specs.Prelude.{◌≡◌, ◌∷◌, [], IfOk};
+ghost use Rattle.std.specs.Prelude.{◌≡◌, ◌∷◌, [], true, IfOk};
+ghost use Rattle.lint_core.specs.Fits.{query_fits};
 
 use crate::placing::can_be_placed;
 use crate::texts::binding;
@@ -138,17 +139,16 @@ fn level(alloc: Global, entry: u32) -> Result<Items<Items<u32>>, NoMemory>
     Ok(levels)
 }
 
-/// The formula that holds where the condition of a query from one table is true, or the one that holds where it is
-/// false. None for other queries.
-fn formula_of(
+/// The formula that holds where the condition of a query that fits is true, or the one that holds where it is false.
+/// None for a query that is not from one table.
+fn fitting_formula(
     alloc: Global,
     schema: &Schema,
     query: &Query,
     holds: bool,
-) -> Result<Option<Formula>, NoMemory> {
-    if !query.fits(schema) {
-        return Ok(None);
-    }
+) -> Result<Option<Formula>, NoMemory>
+    requires { query_fits schema.now query.now ≡ true }
+{
     let [entry] = query.block.entries.as_slice() else {
         return Ok(None);
     };
@@ -163,6 +163,21 @@ fn formula_of(
         is_false(alloc, schema, &query.block.cond, &scope)?
     };
     Ok(Some(formula))
+}
+
+/// The formula that holds where the condition of a query from one table is true, or the one that holds where it is
+/// false. None for other queries.
+fn formula_of(
+    alloc: Global,
+    schema: &Schema,
+    query: &Query,
+    holds: bool,
+) -> Result<Option<Formula>, NoMemory> {
+    if query.fits(schema) {
+        fitting_formula(alloc, schema, query, holds)
+    } else {
+        Ok(None)
+    }
 }
 
 /// The formula that holds where the condition of a query from one table is true, or the one that holds where it is
