@@ -10,6 +10,9 @@
 //!
 //! A `Trace` is a word of its owner alone: it shows what its owner noted, and no proof ties that to
 //! what a file gave.
+//!
+//! Of wrong bodies the contracts let through only those that answer that memory ran out though there is some, since
+//! no clause can say when memory ends: the runs of the program show that lists, texts and files are made.
 #![tactic(auto)]
 
 mod items;

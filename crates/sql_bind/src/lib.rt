@@ -6,6 +6,9 @@
 //! query binds to, and in which order its parts are looked at), `Columns`, `Keys` and `Schemas` (the same
 //! of a schema), and `Shape` (what the grammar gives to every tree). `Bound` says what a call answers:
 //! the bound form, or the refusal of the first rule that is broken, unless memory ran out.
+//!
+//! Of wrong bodies the contracts let through only those that answer `NoMemory` though there is memory, since no clause
+//! can say when memory ends: the cases of `worked_cases` show that trees are bound.
 #![tactic(auto)]
 
 mod bound;

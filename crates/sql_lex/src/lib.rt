@@ -5,6 +5,10 @@
 //! `Gaps` and `Tokens` (how a piece is spelled), `Faults` and `Refused` (which refusal comes first).
 //! `Lexing`, `Runs` and `Seen` only retell the code. `one_lexing` proves that a piece has at most one list of
 //! tokens, at most one first fault, and not both.
+//!
+//! Of wrong bodies the contracts let through only those that answer `NoMemory` though there is memory, since no clause
+//! can say when memory ends, and private ones that answer of an empty text, or of the byte 0, at once what the real one
+//! answers there: the cases of `worked_cases` show that texts are read.
 #![tactic(auto)]
 
 mod classes;

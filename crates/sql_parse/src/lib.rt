@@ -9,6 +9,9 @@
 //!
 //! The next token always decides, and no token is read twice: a parser is linear in its tokens. The place of a
 //! Syntax refusal is that of the token at which the parser stopped; no clause says yet which one it is.
+//!
+//! Of wrong bodies the contracts let through only those that answer `NoMemory` though there is memory, also private ones
+//! that take none, since no clause can say when memory ends: the cases of `worked_cases` show that texts are read.
 #![tactic(auto)]
 
 mod front;
