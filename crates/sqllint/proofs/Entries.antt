@@ -18,7 +18,7 @@ use Rattle.sql_lex.specs.Classes.{Class, Blank, Solid, Separator, Inside, Nothin
 use Rattle.sql_lex.specs.Pieces.{Part, parts_from, solid_places, spanned, spans_of, pieces}
 use Rattle.sqllint.specs.Reading.{IsAnsweredRun}
 use Rattle.sqllint.specs.RightRun.{judged, IsRightResult, AreRightFrom}
-use Rattle.sqllint.specs.TextReading.{ReadsQuery}
+use Rattle.sql_reading.specs.TextReading.{ReadsQuery}
 
 abbrev pub span_of : QueryRun → Span
 span_of run = run.span

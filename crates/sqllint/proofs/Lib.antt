@@ -1,5 +1,3 @@
 pub mod Appends
 pub mod Entries
 pub mod Quotes
-pub mod Shapes
-pub mod Texts

@@ -1,7 +1,6 @@
 pub mod Words
 pub mod Text
 pub mod Worked
-pub mod TextReading
 pub mod RightRun
 pub mod Stops
 pub mod Status

@@ -1,8 +1,5 @@
 -- What private functions answer on the way; nothing here has to be believed.
 use Rattle.std.specs.Prelude.{ℕ, ◌≡◌, List}
-use Rattle.lint_base.specs.declared.place.Span.{Span}
-use Rattle.lint_base.specs.declared.place.TextStop.{TextStop}
-use Rattle.lint_base.specs.declared.place.TextStop.TheVariants as text_stop
 use Rattle.lint_base.specs.declared.stops.ReadStop.{ReadStop}
 use Rattle.lint_base.specs.declared.stops.ReadStop.TheVariants as read_stop
 use Rattle.lint_core.specs.declared.schema.Table.{Table}
@@ -10,7 +7,6 @@ use Rattle.lint_core.specs.declared.query.Query.{Query}
 use Rattle.lint_core.specs.declared.run.QueryResult.{QueryResult}
 use Rattle.lint_core.specs.declared.run.QueryResult.TheVariants.{Refused, Answered}
 use Rattle.sqllint.specs.RightRun.{IsAnswered}
-use Rattle.sqllint.specs.TextReading.{RefusesSchema, RefusesQuery}
 use Rattle.sqllint.specs.declared.outcome.Which.{Which}
 use Rattle.sqllint.specs.declared.outcome.Stop.{Stop}
 use Rattle.sqllint.specs.declared.outcome.Stop.TheVariants as stop
@@ -19,16 +15,6 @@ use Rattle.sqllint.specs.declared.outcome.Stop.TheVariants as stop
 abbrev pub IsAnsweredRun : List Table → ℕ → Query → QueryResult → Type 0
 IsAnsweredRun schema number asked (Refused refusal) = ⊥
 IsAnsweredRun schema number asked (Answered query questions answers) = (query ≡ asked) × IsAnswered schema number query questions answers
-
--- unless memory ran out, the text declares no schema, for the cause that is told
-abbrev pub StopsSchema : List ℕ → TextStop → Type 0
-StopsSchema text text_stop.NoMemory = Unit {0}
-StopsSchema text (text_stop.Refused refusal) = RefusesSchema text refusal
-
--- unless memory ran out, the piece is no query, for the cause that is told
-abbrev pub StopsQuery : List Table → List ℕ → Span → TextStop → Type 0
-StopsQuery schema text piece text_stop.NoMemory = Unit {0}
-StopsQuery schema text piece (text_stop.Refused refusal) = RefusesQuery schema text piece refusal
 
 -- a read that stops at this file stops the run there
 abbrev pub stop_of : ReadStop → Which → Stop

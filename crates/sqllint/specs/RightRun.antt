@@ -12,7 +12,7 @@ use Rattle.lint_core.specs.declared.run.QueryRun.{QueryRun}
 use Rattle.lint_engine.specs.Answer.{IsRightAnswer}
 use Rattle.lint_core.specs.FirstForm.{is_first_form}
 use Rattle.sql_lex.specs.Pieces.{pieces}
-use Rattle.sqllint.specs.TextReading.{ReadsQuery, RefusesQuery}
+use Rattle.sql_reading.specs.TextReading.{ReadsQuery, RefusesQuery}
 
 -- what is answered of a query: E1, where the query is of the form that is judged so far, and else nothing
 pub data IsAnswered (schema : List Table) (number : ℕ) (query : Query) (questions : List Question) (answers : List Answer) : Type 0 where

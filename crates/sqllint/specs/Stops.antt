@@ -8,7 +8,7 @@ use Rattle.lint_core.specs.declared.schema.Table.{Table}
 use Rattle.lint_core.specs.declared.run.QueryRun.{QueryRun}
 use Rattle.lint_core.specs.declared.run.Run.{Run}
 use Rattle.sqllint.specs.RightRun.{AreRightQueries}
-use Rattle.sqllint.specs.TextReading.{ReadsSchema, RefusesSchema}
+use Rattle.sql_reading.specs.TextReading.{ReadsSchema, RefusesSchema}
 use Rattle.sqllint.specs.Words.{Paths}
 use Rattle.sqllint.specs.declared.outcome.Which.TheVariants as which
 use Rattle.sqllint.specs.declared.outcome.Stop.{Stop}

@@ -3,17 +3,15 @@ ghost use Rattle.std.specs.Prelude.{◌≡◌, ◌<◌, ◌≤◌, ◌^◌, ℕ,
 ghost use Rattle.lint_core.specs.Fits.{query_fits};
 ghost use Rattle.sql_lex.specs.Within.{IsWithin};
 ghost use Rattle.sqllint.specs.RightRun.{IsRightResult, AreRightQueries};
-ghost use Rattle.sqllint.specs.Reading.{stop_of, IsAnsweredRun, StopsSchema, StopsQuery};
-ghost use Rattle.sqllint.specs.TextReading.{ReadsSchema, ReadsQuery};
+ghost use Rattle.sqllint.specs.Reading.{stop_of, IsAnsweredRun};
 ghost use Rattle.sqllint.specs.Stops.{StopsAtSchema, StopsAtQueries, told, IsSchemaRead, AreQueriesRead};
 
 use crate::outcome::{Stop, Which};
 use lint_base::{Items, NoMemory, ReadStop, Shelf, Span, TextStop, read_file};
 use lint_core::{Query, QueryResult, QueryRun, Question, Schema, first_form_is_tested};
 use lint_engine::judge_empty;
-use sql_bind::{bind_query, bind_schema};
-use sql_lex::{lex, split_queries};
-use sql_parse::{parse_query, parse_schema};
+use sql_lex::split_queries;
+use sql_reading::{read_query, read_schema};
 use std::alloc::Global;
 
 /// The most bytes that a file may have.
@@ -54,39 +52,6 @@ fn answered(
     })
 }
 
-/// The schema that a text declares, or why it declares none.
-pub(crate) fn schema_of(alloc: Global, text: &[u8]) -> Result<Schema, TextStop>
-    requires { length text.now ≤ 1048576 }
-    ensures read { IfOk result (λ schema. ReadsSchema text.now schema) }
-    ensures refused { IfErr result (λ stop. StopsSchema text.now stop) }
-{
-    let whole = Span {
-        from: 0,
-        to: text.len() as u32,
-    };
-    let tokens = lex(alloc, text, whole)?;
-    let trees = parse_schema(alloc, tokens.as_slice())?;
-    bind_schema(alloc, trees.as_slice())
-}
-
-/// The query that a piece of a text is, or why it is none.
-pub(crate) fn query_of(
-    alloc: Global,
-    schema: &Schema,
-    text: &[u8],
-    piece: Span,
-) -> Result<Query, TextStop>
-    requires short { length text.now ≤ 1048576 }
-    requires within { IsWithin (length text.now) piece }
-    ensures read { IfOk result (λ query. ReadsQuery schema.now text.now piece query) }
-    ensures fits { IfOk result (λ query. query_fits schema.now query ≡ true) }
-    ensures refused { IfErr result (λ stop. StopsQuery schema.now text.now piece stop) }
-{
-    let tokens = lex(alloc, text, piece)?;
-    let tree = parse_query(alloc, tokens.as_slice())?;
-    bind_query(alloc, schema, &tree)
-}
-
 /// What becomes of a piece, whatever stands in the others.
 fn result_of(
     alloc: Global,
@@ -99,7 +64,7 @@ fn result_of(
     requires within { IsWithin (length text.now) piece }
     ensures { IfOk result (λ r. IsRightResult schema.now number text.now (record { span = piece; result = r }) r) }
 {
-    match query_of(alloc, schema, text, piece) {
+    match read_query(alloc, schema, text, piece) {
         Ok(query) => answered(alloc, schema, query, number),
         Err(TextStop::Refused(refusal)) => Ok(QueryResult::Refused(refusal)),
         Err(TextStop::NoMemory) => Err(NoMemory),
@@ -164,7 +129,7 @@ pub fn schema_at<H: Shelf>(alloc: Global, shelf: &mut H, path: &str) -> Result<S
         (told H.open_faults H.read_faults H.failed_path H.opened_path H.given shelf.new) stop) }
 {
     match read_file(alloc, shelf, path, FILE_LIMIT) {
-        Ok(text) => match schema_of(alloc, text.as_slice()) {
+        Ok(text) => match read_schema(alloc, text.as_slice()) {
             Ok(schema) => Ok(schema),
             Err(TextStop::Refused(refusal)) => Err(Stop::SchemaRefused(refusal)),
             Err(TextStop::NoMemory) => Err(Stop::NoMemory),

@@ -1,16 +1,23 @@
 //! Schemas, queries, databases and points from texts.
 ghost use Rattle.std.specs.Prelude.{◌<◌, ◌^◌, length, IfOk};
 
-use lint_base::{Items, NoMemory, Refusal, Span, Str, TextStop};
+use lint_base::{Fault, Items, NoMemory, Refusal, Span, Str, TextStop};
 use lint_core::{Binding, Database, Points, Query, Row, Schema, Value};
-use sql_bind::{bind_query, bind_schema};
 use sql_lex::{Token, lex};
 use sql_parse::{parse_query, parse_schema};
+use sql_reading::{read_query, read_schema};
 use sql_tree::{CreateTable, QueryTree};
 use std::alloc::Global;
 
 /// The most bytes that a text has.
 const TEXT_LIMIT: usize = 1_048_576;
+
+/// The refusal of a text that is empty or above the limit: it is no statement.
+const NO_TEXT: TextStop = TextStop::Refused(Refusal {
+    fault: Fault::Syntax,
+    span: Span { from: 0, to: 0 },
+    count: 0,
+});
 
 /// The tokens of a text. A text above the limit has none.
 fn tokens(alloc: Global, text: &str) -> Result<Vec<Token>, TextStop>
@@ -38,13 +45,23 @@ pub(crate) fn schema_trees(alloc: Global, text: &str) -> Result<Vec<CreateTable>
 }
 
 pub(crate) fn schema(alloc: Global, text: &str) -> Result<Schema, TextStop> {
-    let trees = schema_trees(alloc, text)?;
-    bind_schema(alloc, trees.as_slice())
+    let bytes = text.as_bytes();
+    if bytes.len() > TEXT_LIMIT {
+        return Err(NO_TEXT);
+    }
+    read_schema(alloc, bytes)
 }
 
 pub(crate) fn query(alloc: Global, schema: &Schema, text: &str) -> Result<Query, TextStop> {
-    let tree = query_tree(alloc, text)?;
-    bind_query(alloc, schema, &tree)
+    let bytes = text.as_bytes();
+    if bytes.is_empty() || bytes.len() > TEXT_LIMIT {
+        return Err(NO_TEXT);
+    }
+    let whole = Span {
+        from: 0,
+        to: bytes.len() as u32,
+    };
+    read_query(alloc, schema, bytes, whole)
 }
 
 /// A refusal: its name and its place, and the count that is above a limit.

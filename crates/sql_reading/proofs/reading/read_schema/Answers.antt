@@ -3,9 +3,9 @@ use Rattle.std.proofs.lemmas.Result.{err_from_is_err_and}
 use Rattle.sql_lex.specs.Tokens.{Spells}
 use Rattle.sql_parse.specs.Refusals.{IsSchema}
 use Rattle.sql_bind.specs.Shape.{schema_shaped}
-use Rattle.sqllint.proofs.Shapes.{schema_shape}
-use Rattle.sqllint.proofs.Texts.{schema_parsed, schema_bound}
-use Rattle.sqllint.proofs.reading.schema_of.Goals as goal
+use Rattle.sql_reading.proofs.Shapes.{schema_shape}
+use Rattle.sql_reading.proofs.Texts.{schema_parsed, schema_bound}
+use Rattle.sql_reading.proofs.reading.read_schema.Goals as goal
 
 pub returns-in_err-trees-clause-refused : goal.returns-in_err-trees-clause-refused
 returns-in_err-trees-clause-refused c =

@@ -16,9 +16,9 @@ use Rattle.sql_parse.specs.Refusals.{IsQuery, IsRefusedQuery, IsSchema, IsRefuse
 use Rattle.sql_bind.specs.Bound.{Gives}
 use Rattle.sql_bind.specs.Queries.{bind_query}
 use Rattle.sql_bind.specs.Schemas.{bind_schema}
-use Rattle.sqllint.specs.Reading.{StopsSchema, StopsQuery}
-use Rattle.sqllint.specs.TextReading.{ReadsSchema, ReadsQuery, piece_text}
-use Rattle.sqllint.specs.TextReading as reading
+use Rattle.sql_reading.specs.Stopping.{StopsSchema, StopsQuery}
+use Rattle.sql_reading.specs.TextReading.{ReadsSchema, ReadsQuery, piece_text}
+use Rattle.sql_reading.specs.TextReading as reading
 
 whole : (text : List ℕ) → slice_range text 0 (length text) ≡ text
 whole text = take_all (length text - 0) text (omega arith)

@@ -1,10 +1,10 @@
 use Rattle.std.proofs.Common.{subst, sym}
 use Rattle.std.proofs.lemmas.Result.{err_from_is_err_and}
 use Rattle.sql_lex.specs.Tokens.{Spells}
-use Rattle.sqllint.specs.TextReading.{piece_text}
-use Rattle.sqllint.proofs.Shapes.{query_shape}
-use Rattle.sqllint.proofs.Texts.{query_parsed, query_read, query_bound}
-use Rattle.sqllint.proofs.reading.query_of.Goals as goal
+use Rattle.sql_reading.specs.TextReading.{piece_text}
+use Rattle.sql_reading.proofs.Shapes.{query_shape}
+use Rattle.sql_reading.proofs.Texts.{query_parsed, query_read, query_bound}
+use Rattle.sql_reading.proofs.reading.read_query.Goals as goal
 
 pub returns-in_err-tree-clause-refused : goal.returns-in_err-tree-clause-refused
 returns-in_err-tree-clause-refused c =
