@@ -5,7 +5,7 @@ ghost use Rattle.lint_core.specs.DatabaseFits.{has_few_rows};
 
 use crate::texts::{binding, database};
 use lint_base::{Items, NoMemory};
-use lint_core::{Database, Query, Schema};
+use lint_core::{Database, Query, Schema, Truth};
 use sql_meaning::{TruthStop, meets};
 use std::alloc::Global;
 
@@ -30,6 +30,25 @@ pub(crate) fn shown_stop(alloc: Global, stop: TruthStop) -> Result<String, NoMem
     }
 }
 
+/// A copy of the database of a text.
+pub(crate) fn database_copy(alloc: Global, rows: &str) -> Result<Database, NoMemory> {
+    let given = database(alloc, rows)?;
+    given.copy(alloc)
+}
+
+/// The truth of the query's condition in a database, at the binding of a text.
+fn truth_at(
+    alloc: Global,
+    schema: &Schema,
+    query: &Query,
+    database: &Database,
+    at: &str,
+) -> Result<Truth, TruthStop> {
+    let tables = main_tables(alloc, query)?;
+    let at = binding(alloc, at)?;
+    sql_meaning::truth(alloc, schema, database, &query.block.cond, &tables, &at)
+}
+
 /// The truth of the query's condition. The text is `ROWS at BINDING`.
 pub(crate) fn truth(
     alloc: Global,
@@ -41,10 +60,8 @@ pub(crate) fn truth(
         return Ok(String::from_str(alloc, "no binding")?);
     };
     let query = query.copy(alloc)?;
-    let database = database(alloc, rows)?.copy(alloc)?;
-    let tables = main_tables(alloc, &query)?;
-    let at = binding(alloc, at)?;
-    match sql_meaning::truth(alloc, schema, &database, &query.block.cond, &tables, &at) {
+    let database = database_copy(alloc, rows)?;
+    match truth_at(alloc, schema, &query, &database, at) {
         Ok(truth) => Ok(format!(in alloc; "{truth:?}")?),
         Err(stop) => shown_stop(alloc, stop),
     }
@@ -62,7 +79,7 @@ fn has_few_rows(database: &Database) -> bool
 
 /// The first violation of the schema in the rows of the text.
 pub(crate) fn violation(alloc: Global, schema: &Schema, text: &str) -> Result<String, NoMemory> {
-    let database = database(alloc, text)?.copy(alloc)?;
+    let database = database_copy(alloc, text)?;
     if !database.fits(schema) || !has_few_rows(&database) {
         return Ok(String::from_str(alloc, "rows of another schema")?);
     }

@@ -1,10 +1,10 @@
 //! Which questions are asked of a query, and what refutes them. A question is named by its code and the numbers of
 //! what it asks about, from 0: `E1`, `E3 0`, `E4 0 1`. As in `meaning`, copies are judged.
-use crate::meaning::shown_stop;
-use crate::texts::{database, points, value};
+use crate::meaning::{database_copy, shown_stop};
+use crate::texts::{points, value};
 use lint_base::NoMemory;
-use lint_core::{Query, Question, Schema};
-use sql_meaning::fails_at;
+use lint_core::{Points, Query, Question, Schema};
+use sql_meaning::{TruthStop, fails_at};
 use std::alloc::Global;
 
 /// The codes of the questions in their order.
@@ -93,27 +93,63 @@ pub(crate) fn asked(alloc: Global, schema: &Schema, query: &Query) -> Result<Str
     Ok(out)
 }
 
-/// Whether points refute a question. The text is `QUESTION: ROWS at POINTS`, or `QUESTION given VALUE: ..` for the
-/// value of a constant column, which is NULL else.
+/// A question with the texts of the value of a constant column, of rows and of points.
+#[derive(Clone, Copy)]
+struct Asking<'a> {
+    question: Question,
+    given: &'a str,
+    rows: &'a str,
+    at: &'a str,
+}
+
+/// What a text asks, if it has the form `QUESTION: ROWS at POINTS`, or `QUESTION given VALUE: ROWS at POINTS`. The
+/// value is NULL where none is given.
+fn asking<'a>(alloc: Global, text: &'a str) -> Result<Option<Asking<'a>>, NoMemory> {
+    let (asked, rest) = text.split_once(": ").unwrap_or((text, ""));
+    let Some((rows, at)) = rest.split_once(" at ") else {
+        return Ok(None);
+    };
+    let (name, given) = asked.split_once(" given ").unwrap_or((asked, "NULL"));
+    let Some(question) = question(alloc, name)? else {
+        return Ok(None);
+    };
+    Ok(Some(Asking {
+        question,
+        given,
+        rows,
+        at,
+    }))
+}
+
+/// A copy of the points of a text.
+fn points_copy(alloc: Global, at: &str) -> Result<Points, NoMemory> {
+    let given = points(alloc, at)?;
+    given.copy(alloc)
+}
+
+impl Asking<'_> {
+    /// Whether the points refute the question of the query.
+    fn is_refuted(&self, alloc: Global, schema: &Schema, query: &Query) -> Result<bool, TruthStop> {
+        let database = database_copy(alloc, self.rows)?;
+        let given = value(alloc, self.given)?;
+        let points = points_copy(alloc, self.at)?;
+        let question = self.question;
+        fails_at(alloc, schema, &database, query, &question, &given, &points)
+    }
+}
+
+/// Whether points refute a question of the query.
 pub(crate) fn outcome(
     alloc: Global,
     schema: &Schema,
     query: &Query,
     text: &str,
 ) -> Result<String, NoMemory> {
-    let (asked, rest) = text.split_once(": ").unwrap_or((text, ""));
-    let Some((rows, at)) = rest.split_once(" at ") else {
-        return Ok(String::from_str(alloc, "no points")?);
-    };
-    let (name, given) = asked.split_once(" given ").unwrap_or((asked, "NULL"));
-    let Some(question) = question(alloc, name)? else {
-        return Ok(String::from_str(alloc, "no such question")?);
+    let Some(asking) = asking(alloc, text)? else {
+        return Ok(String::from_str(alloc, "no question at points")?);
     };
     let query = query.copy(alloc)?;
-    let database = database(alloc, rows)?.copy(alloc)?;
-    let given = value(alloc, given)?;
-    let points = points(alloc, at)?.copy(alloc)?;
-    match fails_at(alloc, schema, &database, &query, &question, &given, &points) {
+    match asking.is_refuted(alloc, schema, &query) {
         Ok(true) => Ok(String::from_str(alloc, "yes")?),
         Ok(false) => Ok(String::from_str(alloc, "no")?),
         Err(stop) => shown_stop(alloc, stop),
