@@ -104,7 +104,7 @@ struct Asking<'a> {
 
 /// What a text asks, if it has the form `QUESTION: ROWS at POINTS`, or `QUESTION given VALUE: ROWS at POINTS`. The
 /// value is NULL where none is given.
-fn asking<'a>(alloc: Global, text: &'a str) -> Result<Option<Asking<'a>>, NoMemory> {
+fn asking_of<'a>(alloc: Global, text: &'a str) -> Result<Option<Asking<'a>>, NoMemory> {
     let (asked, rest) = text.split_once(": ").unwrap_or((text, ""));
     let Some((rows, at)) = rest.split_once(" at ") else {
         return Ok(None);
@@ -145,7 +145,7 @@ pub(crate) fn outcome(
     query: &Query,
     text: &str,
 ) -> Result<String, NoMemory> {
-    let Some(asking) = asking(alloc, text)? else {
+    let Some(asking) = asking_of(alloc, text)? else {
         return Ok(String::from_str(alloc, "no question at points")?);
     };
     let query = query.copy(alloc)?;
