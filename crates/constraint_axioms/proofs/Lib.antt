@@ -1,10 +1,3 @@
-mod Tests
-mod Values
-mod NotNull
-mod Keys
-mod Checks
-mod Foreign
-mod Constraints
-mod Bounds
-mod Violations
-mod Pairs
+pub mod Bounds
+pub mod Violations
+pub mod Pairs

@@ -18,9 +18,9 @@ use Rattle.sort_formula.proofs.Lists.{both_left, both_right}
 use Rattle.truth_formula.specs.Bounds.{is_within}
 use Rattle.truth_formula.specs.declared.scope.Scope.{Scope as Given}
 use Rattle.truth_formula.specs.Scopes.{CanStand, count_entries, entries_step, block_step}
-use Rattle.truth_formula.proofs.Bound.{condition_joins_none, negated_is_bound}
+use Rattle.truth_laws.proofs.Bound.{condition_joins_none, negated_is_bound}
 use Rattle.constraint_axioms.proofs.Bounds.{bound_forall}
-use Rattle.constraint_axioms.proofs.Checks.{FormulasFit}
+use Rattle.truth_laws.proofs.Checks.{FormulasFit}
 
 -- ---- a condition without a subquery has no entries in subqueries
 

@@ -15,7 +15,8 @@ use lint_base::{Items, NoMemory};
 use lint_core::{Cond, Schema};
 use sort_formula::{Formula, negate};
 use std::alloc::Global;
-use truth_formula::{Scope, formulas_fit, is_false};
+use truth_formula::{Scope, is_false};
+use truth_laws::formulas_fit;
 
 fn only(alloc: Global, number: u32) -> Result<Items<Items<u32>>, NoMemory>
     ensures { IfOk result (λ levels. levels ≡ (number ∷ []) ∷ []) }

@@ -23,9 +23,3 @@ pub mod Question
 pub mod QueryAnswer
 pub mod PlainWord
 pub mod FirstForm
-pub mod Connectives
-pub mod SubqueryValues
-pub mod SameRows
-pub mod Examples
-pub mod SchemaExamples
-pub mod FitExamples

@@ -1,10 +1,8 @@
-//! The laws of the tests. The functions do nothing: each contract
-//! is a law about the definitions in `specs/`.
-ghost use Rattle.std.specs.Prelude.{◌≡◌, true, List, Contains};
+//! The law of the test of the first form. The function does nothing: its contract is a law about the definitions in
+//! `specs/`.
+ghost use Rattle.std.specs.Prelude.{◌≡◌, true, List};
 ghost use Rattle.lint_core.specs.declared.query.Query.{Query};
-ghost use Rattle.lint_core.specs.declared.query.Question.{Question};
 ghost use Rattle.lint_core.specs.declared.schema.Table.{Table};
-ghost use Rattle.lint_core.specs.Asked.{is_asked, questions};
 ghost use Rattle.lint_core.specs.FirstForm.{Conjunct, IsFirstForm, is_first_form};
 
 /// The test of the first form says yes exactly of the queries of the first form.
@@ -13,12 +11,4 @@ pub fn first_form_is_tested()
         → (table : Table) × (conjuncts : List Conjunct) × IsFirstForm schema query table conjuncts }
     ensures only { (schema : List Table) (query : Query) (table : Table) (conjuncts : List Conjunct)
         → IsFirstForm schema query table conjuncts → is_first_form schema query ≡ true }
-{}
-
-/// The list of a query's questions has exactly those that are asked of it.
-pub fn asked_questions_are_listed()
-    ensures listed { (schema : List Table) (query : Query) (question : Question)
-        → is_asked schema query question ≡ true → Contains (questions schema query) question }
-    ensures asked { (schema : List Table) (query : Query) (question : Question)
-        → Contains (questions schema query) question → is_asked schema query question ≡ true }
 {}

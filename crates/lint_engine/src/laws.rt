@@ -12,8 +12,7 @@ ghost use Rattle.lint_core.specs.Schema.{is_schema};
 ghost use Rattle.sort_formula.specs.Certificate.{accepts};
 ghost use Rattle.sort_formula.specs.Counters.{counter_sentence};
 
-use constraint_axioms::accepted_sentence_fails;
-use truth_formula::formulas_say_truth;
+use truth_laws::{accepted_sentence_fails, formulas_say_truth};
 
 /// Of every query that fits: where steps refute the counter sentence of E1, the answer is empty in every database
 /// that meets the schema.

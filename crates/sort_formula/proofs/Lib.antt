@@ -1,15 +1,5 @@
 pub mod Lists
 pub mod Holding
-mod Standing
+pub mod Standing
 pub mod Fitting
-mod Below
-pub mod Cells
-pub mod Complements
-mod Renaming
-mod Translated
-mod Named
-mod Realized
-mod Linked
-mod RingSums
-mod RingEdges
-mod StepsRealized
+pub mod Below

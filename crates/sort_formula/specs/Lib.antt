@@ -16,4 +16,3 @@ pub mod Counters
 pub mod Loose
 pub mod Standpoint
 pub mod Rows
-pub mod Examples

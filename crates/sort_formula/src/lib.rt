@@ -3,12 +3,12 @@
 //! The layer above may use the types, `negate`, `place`, `Sentence` and its calls, and the copies. Of `specs/`
 //! a reader must believe `Holds` (when a formula holds), `Negated` and `Placed` (what `negate` and `place`
 //! make), `Variables` (`is_numbered_from`: which formulas `place` takes), `Sentences` (what a sentence is), `Nodes`,
-//! and `Rows`, which the laws speak of. The laws `negation_complements` and `placing_renames` say what `negate` and
-//! `place` are for.
+//! and `Rows`, which the laws speak of. The laws `negation_complements` and `placing_renames` of `formula_laws` say what
+//! `negate` and `place` are for.
 //!
 //! When the steps of a certificate are accepted is defined in `Certificate`, with `Facts`, `Rings` and `Chains`; none of
-//! them need be believed, since the law `accepted_steps_refute` says what accepted steps show: that the sentence holds
-//! in no database of the domains in which all of `Axioms` hold.
+//! them need be believed, since the law `accepted_steps_refute` of `formula_laws` says what accepted steps show: that the
+//! sentence holds in no database of the domains in which all of `Axioms` hold.
 //!
 //! Of wrong bodies the contracts let through only negations, renamings and copies that answer `NoMemory` though there is
 //! memory, since no clause can say when memory ends: the cases of `worked_cases` show that formulas are made.
@@ -17,16 +17,12 @@
 mod copies;
 mod fits;
 mod formula;
-mod laws;
 mod negation;
 mod outside;
 mod placing;
 mod sentence;
-mod worked;
 
 pub use formula::{Atom, Formula, Side};
-pub use laws::{accepted_steps_refute, negation_complements, placing_renames};
 pub use negation::negate;
 pub use placing::place;
 pub use sentence::Sentence;
-pub use worked::{worked_formulas, worked_rewritings, worked_sentences, worked_steps};

@@ -1,0 +1,9 @@
+pub mod Cells
+pub mod Complements
+pub mod Renaming
+pub mod Named
+pub mod Realized
+pub mod Linked
+pub mod RingSums
+pub mod RingEdges
+pub mod StepsRealized

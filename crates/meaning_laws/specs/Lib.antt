@@ -1,0 +1,3 @@
+pub mod Connectives
+pub mod SubqueryValues
+pub mod SameRows

@@ -1,5 +1,0 @@
-use Rattle.sort_formula.proofs.Complements.{complements}
-use Rattle.sort_formula.proofs.laws.negation_complements.Goals as goal
-
-pub returns : goal.returns
-returns c = λ schema db domains formula rows fits. complements schema db domains formula rows fits

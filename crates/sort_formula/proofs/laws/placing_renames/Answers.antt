@@ -1,5 +1,0 @@
-use Rattle.sort_formula.proofs.Renaming.{renames}
-use Rattle.sort_formula.proofs.laws.placing_renames.Goals as goal
-
-pub returns : goal.returns
-returns c = λ db numbers depth formula rows others deep same. renames db numbers depth rows others deep same formula

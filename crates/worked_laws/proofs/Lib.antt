@@ -1,0 +1,4 @@
+pub mod FitParts
+pub mod Examples
+pub mod QuestionExamples
+pub mod Translated

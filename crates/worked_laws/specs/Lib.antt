@@ -1,0 +1,4 @@
+pub mod Examples
+pub mod SchemaExamples
+pub mod FitExamples
+pub mod FormulaExamples
