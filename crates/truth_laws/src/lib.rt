@@ -7,8 +7,8 @@
 //! `accepted_sentence_fails` (what an accepted certificate shows).
 #![tactic(auto)]
 
-mod constraints;
+mod axioms;
 mod truths;
 
-pub use constraints::{accepted_sentence_fails, axioms_are_the_constraints};
+pub use axioms::{accepted_sentence_fails, axioms_are_the_constraints};
 pub use truths::{formulas_fit, formulas_say_truth, loose_reading_agrees};
