@@ -22,7 +22,7 @@ use Rattle.sort_formula.specs.declared.formula.Side.TheVariants as side
 use Rattle.sort_formula.specs.Holds.{cell_value, side_value}
 use Rattle.sort_formula.specs.Rows.{tables_of_rows}
 use Rattle.sort_formula.specs.Sentences.{kind_at, is_number_kind, is_number_side, is_text_side}
-use Rattle.sort_formula.proofs.Lists.{both_left, both_right}
+use Rattle.lint_base.proofs.Lists.{both_left, both_right}
 
 -- NULL or a number
 abbrev pub may_be_number : Value → Bool

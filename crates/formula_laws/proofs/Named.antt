@@ -2,7 +2,7 @@
 use Rattle.std.proofs.Common.{◌≡◌, ◌∙◌, sym, ap, ap₂, subst, ℕ, zero, suc, refl, Bool, true, not, List, [], ◌∷◌, ◌++◌, length}
 use Rattle.std.proofs.lemmas.Option.{option_and_then_some, same_Some}
 use Rattle.std.specs.Prelude.{Option, Some, slice_get, unwrap_or, option_and_then, ⊤}
-use Rattle.lint_core.proofs.Lists.{slice_get_front, slice_get_last}
+use Rattle.lint_base.proofs.Lists.{slice_get_front, slice_get_last}
 use Rattle.lint_core.specs.declared.database.Database.{Database}
 use Rattle.lint_core.specs.declared.database.Value.{Value}
 use Rattle.lint_core.specs.declared.database.Value.TheVariants.{Null}

@@ -5,7 +5,7 @@ use Rattle.std.proofs.lemmas.Option.{option_and_then_some, same_Some, slice_get-
 use Rattle.std.specs.Prelude.{Option, Some, None, slice_get, nat_lt, nat_eq}
 use Rattle.std.specs.List.{AllByRecursion}
 use Rattle.std.specs.Option.{option_map}
-use Rattle.lint_core.proofs.Lists.{every_at}
+use Rattle.lint_base.proofs.Lists.{every_at}
 use Rattle.lint_core.specs.declared.database.Database.{Database}
 use Rattle.lint_core.specs.Database.{Place, rows_of}
 use Rattle.sort_formula.specs.declared.formula.Atom.{Atom}

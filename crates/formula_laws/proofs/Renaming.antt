@@ -18,14 +18,14 @@ use Rattle.sort_formula.specs.declared.formula.Formula.TheOpen.{Formula-F}
 use Rattle.sort_formula.specs.Holds.{holds, atom_holds, side_value, differ_by_at_most, are_texts, is_same_place}
 use Rattle.sort_formula.specs.Placed.{placed, placed_row, placed_side, placed_atom}
 use Rattle.sort_formula.proofs.Holding.{holds_atom, holds_and, holds_or, holds_exists, holds_forall, placed_of_atom, placed_and, placed_or, placed_exists, placed_forall}
-use Rattle.sort_formula.proofs.Lists.{slice_get_front, slice_get_past, all_alike, any_alike}
+use Rattle.lint_base.proofs.Lists.{slice_get_front, get_behind, all_alike, any_alike}
 
 row_at : (others inner : List Place) (numbers : List ℕ) (rows : List Place) (row past : ℕ) →
     map (slice_get others) numbers ≡ map (λ place. Some place) rows → past ≡ length others + (row - length numbers) →
     slice_get (others ++ inner) (unwrap_or (slice_get numbers row) past) ≡ slice_get (rows ++ inner) row
 row_at others inner [] [] row past same is =
     let here : past ≡ length others + row = omega arith in
-    ap (slice_get (others ++ inner)) here ∙ slice_get_past others inner row
+    ap (slice_get (others ++ inner)) here ∙ get_behind others inner row
 row_at others inner [] (r ∷ rows) row past same is = cc
 row_at others inner (n ∷ numbers) [] row past same is = cc
 row_at others inner (n ∷ numbers) (r ∷ rows) zero past same is =

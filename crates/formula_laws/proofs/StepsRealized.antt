@@ -15,8 +15,8 @@ use Rattle.lint_core.specs.declared.database.Database.{Database}
 use Rattle.lint_core.specs.declared.schema.Table.{Table}
 use Rattle.lint_core.specs.Database.{Place, rows_of, below, places_of}
 use Rattle.lint_core.specs.Meets.{is_of_domains}
-use Rattle.lint_core.proofs.Inside.{passes_at}
-use Rattle.lint_core.proofs.Lists.{every_at, every_append, every_then, any_map, some_below, below_at}
+use Rattle.lint_base.proofs.Lists.{every_at, every_append, every_then, any_map, all_at, below_true, false_unless}
+use Rattle.lint_core.proofs.Lists.{some_below, below_at}
 use Rattle.sort_formula.specs.declared.formula.Formula.{Formula, out-Formula}
 use Rattle.sort_formula.specs.declared.formula.Formula.TheOpen.{Formula-F}
 use Rattle.sort_formula.specs.Axioms.{Axiom, axioms}
@@ -43,9 +43,6 @@ realized_first db (x ∷ xs) ys some = elim some [ inl here ↦ inl here | inr l
 realized_later : (db : Database) (xs ys : List Branch) → SomeRealized db ys → SomeRealized db (xs ++ ys)
 realized_later db [] ys some = some
 realized_later db (x ∷ xs) ys some = inr (realized_later db xs ys some)
-
-below_true : (k n : ℕ) → nat_lt k n ≡ true → k < n
-below_true k n low = grind (arith, nat_tests)
 
 abbrev in_table : ℕ → ℕ → Place
 in_table table row = record { table = table; row = row }
@@ -153,7 +150,7 @@ module _ (db : Database) where
       let low : place.row < count = below_true place.row count (subst (λ t. nat_lt place.row (length (rows_of db t)) ≡ true) same there) in
       let one : in_table table place.row ≡ place = ap (λ t. in_table t place.row) (sym same) in
       subst (λ (p : Place). holds db body (ps ++ p ∷ []) ≡ true) one
-      (passes_at (λ row. holds db body (ps ++ in_table table row ∷ [])) (below count) place.row place.row
+      (all_at (λ row. holds db body (ps ++ in_table table row ∷ [])) (below count) place.row place.row
       (sym (list_all-map (λ place. holds db body (ps ++ place ∷ [])) (in_table table) (below count)) ∙ all)
       (below_at count place.row low))
 
@@ -179,10 +176,6 @@ module _ (db : Database) where
   axioms_stand (x ∷ xs) all =
       let both = and_parts (holds db x.sentence []) (list_all (λ (a : Axiom). holds db a.sentence []) xs) all in
       (([], tt, both.0), axioms_stand xs both.1)
-
-false_unless : (b : Bool) → (b ≡ true → ⊥) → b ≡ false
-false_unless true never = absurd (never refl)
-false_unless false never = refl
 
 closed_is : (branches : List Branch) → are_closed branches ≡ true → branches ≡ []
 closed_is [] closed = refl

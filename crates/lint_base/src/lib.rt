@@ -8,11 +8,14 @@
 //! adds, `Trace` what follows from what was asked and given, and `Memory` what the shelf and the sink
 //! in memory hold.
 //!
-//! A `Trace` is a word of its owner alone: it shows what its owner noted, and no proof ties that to
-//! what a file gave.
+//! A `Trace` holds only what its owner wrote into it; nothing proves that a file gave it.
 //!
-//! Of wrong bodies the contracts let through only those that answer that memory ran out though there is some, since
-//! no clause can say when memory ends: the runs of the program show that lists, texts and files are made.
+//! Of `proofs/`, crates above may cite `Lists`: lemmas on lists and tests.
+//!
+//! Wrong bodies that the contracts let through: those that answer that memory ran out though there is some, since no
+//! clause can say when memory ends (the runs of the program show that lists, texts and files are made); a `read_file`
+//! that asks the shelf once more after the end of the file, or for pieces of fewer than 4,096 bytes; and a `write_text`
+//! that writes once more after a fault.
 #![tactic(auto)]
 
 mod items;

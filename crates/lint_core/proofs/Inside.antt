@@ -4,6 +4,7 @@ use Rattle.std.proofs.lemmas.Bool.{and_parts}
 use Rattle.std.proofs.lemmas.Option.{option_and_then_some, same_Some}
 use Rattle.std.specs.Prelude.{Some, slice_get, unwrap_or}
 use Rattle.std.specs.List.{list_all}
+use Rattle.lint_base.proofs.Lists.{all_at}
 use Rattle.lint_core.specs.declared.database.Value.{Value}
 use Rattle.lint_core.specs.declared.database.Row.{Row}
 use Rattle.lint_core.specs.declared.database.Database.{Database}
@@ -12,12 +13,6 @@ use Rattle.lint_core.specs.declared.schema.Table.{Table}
 use Rattle.lint_core.specs.Database.{Place, value_at, rows_of}
 use Rattle.lint_core.specs.Domain.{is_in_domain}
 use Rattle.lint_core.specs.Meets.{values_meet, rows_meet, tables_meet, is_of_domains}
-
--- what all elements pass, each does
-pub passes_at : {A : Type 0} (p : A → Bool) (xs : List A) (i : ℕ) (x : A) → list_all p xs ≡ true → slice_get xs i ≡ Some x → p x ≡ true
-passes_at p [] i x all at = cc
-passes_at p (y ∷ ys) zero x all at = ap p (sym (same_Some y x at)) ∙ (and_parts (p y) (list_all p ys) all).0
-passes_at p (y ∷ ys) (suc i) x all at = passes_at p ys i x (and_parts (p y) (list_all p ys) all).1 at
 
 value_inside : (cs : List Column) (vs : List Value) (i : ℕ) (c : Column) (v : Value) → values_meet cs vs ≡ true →
     slice_get cs i ≡ Some c → slice_get vs i ≡ Some v → is_in_domain c.domain v ≡ true
@@ -45,5 +40,5 @@ inside schema db domains place column v t c value table at =
     option_and_then_some (λ (row : Row). slice_get row.values column) (slice_get (rows_of db place.table) place.row) v value
     (λ row here stands.
     value_inside t.columns row.values column c v
-    (passes_at (λ (row : Row). values_meet t.columns row.values) (rows_of db place.table) place.row row (table_rows_meet schema db.tables place.table t domains table) here)
+    (all_at (λ (row : Row). values_meet t.columns row.values) (rows_of db place.table) place.row row (table_rows_meet schema db.tables place.table t domains table) here)
     at stands)

@@ -4,6 +4,7 @@ use Rattle.std.proofs.lemmas.List.{length-append}
 use Rattle.std.specs.Prelude.{slice_get}
 use Rattle.std.specs.Option.{option_and_then}
 use Rattle.std.proofs.Common.{Bor}
+use Rattle.lint_base.proofs.Lists.{get_before, slice_get_last}
 use Rattle.lint_core.specs.declared.condition.Entry.{Entry}
 use Rattle.lint_core.specs.declared.fits.Levels.{Levels}
 use Rattle.lint_core.specs.declared.fits.Levels.TheVariants as levels
@@ -12,23 +13,14 @@ use Rattle.lint_core.specs.declared.fits.Levels.TheFolds.{fold-roll-Levels}
 use Rattle.lint_core.specs.Fits.{table_at, tables_of}
 use Rattle.lint_core.specs.Levels.{levels_step, tables_of_levels}
 
-get_front : {A : Type 0} (xs : List A) (y : A) (i : ℕ) → i < length xs → slice_get (xs ++ y ∷ []) i ≡ slice_get xs i
-get_front [] y i low = absurd (omega arith)
-get_front (x ∷ xs) y zero low = refl
-get_front (x ∷ xs) y (suc i) low = get_front xs y i (omega arith)
-
-get_last : {A : Type 0} (xs : List A) (y : A) → slice_get (xs ++ y ∷ []) (length xs) ≡ slice_get (y ∷ []) 0
-get_last [] y = refl
-get_last (x ∷ xs) y = get_last xs y
-
 pub length_inside : (tables : List (List ℕ)) (own : List ℕ) → length (tables ++ own ∷ []) ≡ length tables + 1
 length_inside tables own = length-append tables (own ∷ [])
 
 pub table_at_outer : (tables : List (List ℕ)) (own : List ℕ) (level entry : ℕ) → level < length tables → table_at (tables ++ own ∷ []) level entry ≡ table_at tables level entry
-table_at_outer tables own level entry low = ap (option_and_then (λ entries. slice_get entries entry)) (get_front tables own level low)
+table_at_outer tables own level entry low = ap (option_and_then (λ entries. slice_get entries entry)) (get_before tables (own ∷ []) level low)
 
 pub table_at_own : (tables : List (List ℕ)) (own : List ℕ) (level entry : ℕ) → level ≡ length tables → table_at (tables ++ own ∷ []) level entry ≡ slice_get own entry
-table_at_own tables own level entry same = ap (λ level. table_at (tables ++ own ∷ []) level entry) same ∙ ap (option_and_then (λ entries. slice_get entries entry)) (get_last tables own)
+table_at_own tables own level entry same = ap (λ level. table_at (tables ++ own ∷ []) level entry) same ∙ ap (option_and_then (λ entries. slice_get entries entry)) (slice_get_last tables own)
 
 pub tables_inside : (entries : Bor (List Entry)) (outer : Bor Levels) → tables_of_levels (levels.Inside entries outer) ≡ tables_of_levels outer.now ++ tables_of entries.now ∷ []
 tables_inside entries outer = ap tables_of_levels (sym (levels.rolls-Inside entries outer)) ∙ fold-roll-Levels (List (List ℕ)) levels_step (Levels-F.Inside entries outer)

@@ -1,4 +1,4 @@
--- Elements of lists, and the numbers below a number.
+-- The numbers below a number.
 use Rattle.std.proofs.Common.{◌≡◌, add-one, ◌+◌, ◌<◌, ◌∙◌, sym, ap, refl, subst, ℕ, zero, suc, Bool, true, false, ◌||◌, ◌⊎◌, inl, inr, List, [], ◌∷◌, ◌++◌, length, map, arith}
 use Rattle.std.proofs.lemmas.Bool.{cases_lt, or_cases, or_left, or_right}
 use Rattle.std.proofs.lemmas.Bool.Decides.{nat_tests}
@@ -7,34 +7,8 @@ use Rattle.std.proofs.lemmas.List.Folds.{list_any-append}
 use Rattle.std.proofs.lemmas.Option.{same_Some}
 use Rattle.std.specs.Prelude.{Some, slice_get, nat_lt}
 use Rattle.std.specs.List.{AllByRecursion, list_any}
+use Rattle.lint_base.proofs.Lists.{slice_get_front, slice_get_last}
 use Rattle.lint_core.specs.Database.{below}
-
--- an element of a list of which a fact holds
-pub every_at : {A : Type 0} (P : A → Type 0) (xs : List A) (i : ℕ) (x : A) → AllByRecursion P xs → slice_get xs i ≡ Some x → P x
-every_at P [] i x all at = cc
-every_at P (y ∷ ys) zero x all at = subst P (same_Some y x at) all.0
-every_at P (y ∷ ys) (suc i) x all at = every_at P ys i x all.1 at
-
-pub slice_get_front : {A : Type 0} (xs ys : List A) (i : ℕ) (x : A) → slice_get xs i ≡ Some x → slice_get (xs ++ ys) i ≡ Some x
-slice_get_front [] ys i x at = cc
-slice_get_front (x' ∷ xs) ys zero x at = at
-slice_get_front (x' ∷ xs) ys (suc i) x at = slice_get_front xs ys i x at
-
-pub slice_get_last : {A : Type 0} (xs : List A) (x : A) → slice_get (xs ++ x ∷ []) (length xs) ≡ Some x
-slice_get_last [] x = refl
-slice_get_last (x' ∷ xs) x = slice_get_last xs x
-
-pub every_append : {A : Type 0} (P : A → Type 0) (xs ys : List A) → AllByRecursion P xs → AllByRecursion P ys → AllByRecursion P (xs ++ ys)
-every_append P [] ys first second = second
-every_append P (x ∷ xs) ys first second = (first.0, every_append P xs ys first.1 second)
-
-pub every_then : {A : Type 0} (P Q : A → Type 0) → ((x : A) → P x → Q x) → (xs : List A) → AllByRecursion P xs → AllByRecursion Q xs
-every_then P Q leads [] all = tt
-every_then P Q leads (x ∷ xs) all = (leads x all.0, every_then P Q leads xs all.1)
-
-pub any_map : {A B : Type 0} (f : A → B) (p : B → Bool) (xs : List A) → list_any p (map f xs) ≡ list_any (λ x. p (f x)) xs
-any_map f p [] = refl
-any_map f p (x ∷ xs) = ap (λ b. p (f x) || b) (any_map f p xs)
 
 pub below_wider : (k n : ℕ) → nat_lt k n ≡ true → nat_lt k (suc n) ≡ true
 below_wider k n h = grind (arith, nat_tests)

@@ -6,7 +6,7 @@ use Rattle.lint_core.specs.declared.condition.Cond.TheVariants as cond
 use Rattle.lint_core.specs.declared.condition.Cond.TheOpen.{Cond-F}
 use Rattle.lint_core.specs.declared.condition.Cond.TheFolds.{fold-roll-Cond}
 use Rattle.lint_core.specs.Naming.{names_step, names, scalar_step, has_scalar}
-use Rattle.lint_core.proofs.Lists.{any_map}
+use Rattle.lint_base.proofs.Lists.{any_map}
 
 module _ (entry : ℕ) where
   names_and : (parts : List Cond) → names entry (cond.And parts) ≡ list_any (names entry) parts

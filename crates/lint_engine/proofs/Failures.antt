@@ -16,7 +16,8 @@ use Rattle.lint_core.specs.Fits.{main_tables, tables_of}
 use Rattle.lint_core.specs.Points.{are_rows, is_binding}
 use Rattle.lint_core.specs.Question.{where_truth, where_is_true, refutes}
 use Rattle.lint_core.proofs.Conditions.{known}
-use Rattle.lint_core.proofs.Lists.{any_map, any_below}
+use Rattle.lint_base.proofs.Lists.{any_map}
+use Rattle.lint_core.proofs.Lists.{any_below}
 use Rattle.sort_formula.specs.declared.formula.Formula.{Formula}
 use Rattle.sort_formula.specs.declared.formula.Formula.TheVariants.{Exists}
 use Rattle.sort_formula.specs.Counters.{counter_sentence}

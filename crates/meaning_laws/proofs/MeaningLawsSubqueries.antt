@@ -21,7 +21,7 @@ use Rattle.lint_core.specs.Evaluation.{Evaluated, map_ok}
 use Rattle.meaning_laws.specs.SubqueryValues.{inner_bindings_of, HasInnerTruths, Selects}
 use Rattle.lint_core.specs.Truth.{truth_of, is_true, not_of, negated_if, greatest, and_of, or_of}
 use Rattle.lint_core.proofs.Conditions.{block_truth_is, truth_compare, truth_exists, truth_in}
-use Rattle.lint_core.proofs.Lists.{any_map}
+use Rattle.lint_base.proofs.Lists.{any_map}
 use Rattle.lint_core.proofs.Conditions.{least_true}
 use Rattle.meaning_laws.proofs.MeaningLaws.{map_ok_map_ok, not_or_of, and_of_truths, or_of_truths}
 

@@ -14,7 +14,7 @@ use Rattle.sort_formula.specs.declared.formula.Formula.TheVariants as f
 use Rattle.sort_formula.specs.declared.formula.Formula.TheOpen.{Formula-F}
 use Rattle.sort_formula.specs.Nodes.{quantifiers, quantifiers_step}
 use Rattle.sort_formula.specs.Variables.{side_is_below, atom_is_below, Meaning, numbered_from_step, is_numbered_from, below_step, is_below}
-use Rattle.sort_formula.proofs.Lists.{both_left, both_right}
+use Rattle.lint_base.proofs.Lists.{both_left, both_right}
 
 row_below : (n m row : ℕ) → n ≤ m → nat_lt row n ≡ true → nat_lt row m ≡ true
 row_below n m row low below = grind (arith, nat_tests)

@@ -11,7 +11,7 @@ use Rattle.sort_formula.specs.declared.formula.Formula.TheOpen.{Formula-F}
 use Rattle.sort_formula.specs.Holds.{holds, atom_holds, formula_step, Meaning}
 use Rattle.sort_formula.specs.Negated.{negated, negated_atom, negated_step}
 use Rattle.sort_formula.specs.Placed.{placed, placed_atom, placed_step}
-use Rattle.sort_formula.proofs.Lists.{any_map}
+use Rattle.lint_base.proofs.Lists.{any_map}
 
 module _ (db : Database) where
   -- what a formula means, by its outermost layer

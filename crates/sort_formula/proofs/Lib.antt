@@ -1,4 +1,3 @@
-pub mod Lists
 pub mod Holding
 pub mod Standing
 pub mod Fitting

@@ -36,7 +36,7 @@ use Rattle.lint_core.specs.Subqueries.{Subquery}
 use Rattle.lint_core.specs.Truth.{truth_of}
 use Rattle.sort_formula.specs.Loose.{by_formula, rows_at}
 use Rattle.sort_formula.specs.Sides.{scope_of}
-use Rattle.sort_formula.proofs.Lists.{both_left, both_right}
+use Rattle.lint_base.proofs.Lists.{both_left, both_right}
 use Rattle.truth_laws.proofs.Alike.{Leads, Agree, map_leads, all_lead, facts_lead, one_true_leads, two_true_lead, one_leads, each_leads, all_true_lead, in_form}
 use Rattle.truth_laws.proofs.FittingParts.{conjuncts_fit, replaced_fits}
 use Rattle.truth_laws.proofs.FittingSubqueries.{is_fit, scalars_fit, not_ins_fit}

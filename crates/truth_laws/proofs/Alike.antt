@@ -7,7 +7,7 @@ use Rattle.lint_core.specs.declared.database.Truth.TheVariants.{False, Unknown, 
 use Rattle.lint_core.specs.Evaluation.{Evaluated, and_then, map_ok, all_ok, all_hold}
 use Rattle.lint_core.specs.Question.{all_true, one_is_true}
 use Rattle.lint_core.specs.Truth.{is_true, truth_of}
-use Rattle.sort_formula.proofs.Lists.{both_left, both_right}
+use Rattle.lint_base.proofs.Lists.{both_left, both_right}
 
 -- what the first gives, the second gives too
 abbrev pub Leads : {A : Type 0} → Evaluated A → Evaluated A → Type 0

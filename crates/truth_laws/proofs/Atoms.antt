@@ -27,7 +27,7 @@ use Rattle.sort_formula.specs.Sides.{Scope, side_of, added_to, nothing, is_null_
 use Rattle.sort_formula.specs.Translation as translating
 use Rattle.sort_formula.specs.Translation.{Both, swapped_if, inside, translation, translation_step, exist_rows, for_all_rows}
 use Rattle.sort_formula.proofs.Holding.{negated_of_atom, negated_and, negated_or, negated_exists, negated_forall}
-use Rattle.sort_formula.proofs.Lists.{both_left, both_right}
+use Rattle.lint_base.proofs.Lists.{both_left, both_right}
 use Rattle.truth_laws.proofs.Fitting.{both_are}
 
 module _ (test : Atom → Bool) where

@@ -28,7 +28,7 @@ use Rattle.sort_formula.specs.Standpoint.{StandsFor}
 use Rattle.sort_formula.specs.Translation.{is_false_formula}
 use Rattle.formula_laws.proofs.Complements.{complements}
 use Rattle.sort_formula.proofs.Holding.{holds_forall}
-use Rattle.sort_formula.proofs.Lists.{both_left, both_right}
+use Rattle.lint_base.proofs.Lists.{both_left, both_right}
 use Rattle.truth_laws.proofs.Tests.{all_where, place_in, over_all}
 
 -- what is known of the formulas of conditions: when the one for false holds, and that it fits

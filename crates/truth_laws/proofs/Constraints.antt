@@ -12,7 +12,7 @@ use Rattle.lint_core.specs.Meets.{is_of_domains, constraints_met, all_constraint
 use Rattle.lint_core.specs.Schema.{are_columns, are_keys, are_checks, are_foreign_keys, refers_to, is_table, are_tables, is_schema}
 use Rattle.sort_formula.specs.Axioms.{Axiom, not_null_axioms, key_axiom, check_axiom, foreign_axioms, table_axioms, axioms_from, axioms}
 use Rattle.sort_formula.specs.Holds.{holds}
-use Rattle.sort_formula.proofs.Lists.{both_left, both_right}
+use Rattle.lint_base.proofs.Lists.{both_left, both_right}
 use Rattle.truth_laws.proofs.Checks.{CheckSays, FormulasFit, checks_hold}
 use Rattle.truth_laws.proofs.Foreign.{foreign_keys_hold}
 use Rattle.truth_laws.proofs.Keys.{keys_hold}

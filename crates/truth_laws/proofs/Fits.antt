@@ -27,7 +27,7 @@ use Rattle.sort_formula.specs.Sides.{Scope, compare_formula, compare_false_formu
 use Rattle.sort_formula.specs.Translation as translating
 use Rattle.sort_formula.specs.Translation.{Both, swapped_if, inside, translation, translation_step}
 use Rattle.sort_formula.proofs.Fitting.{fits_and, fits_or}
-use Rattle.sort_formula.proofs.Lists.{both_left, both_right}
+use Rattle.lint_base.proofs.Lists.{both_left, both_right}
 use Rattle.truth_laws.proofs.Fitting.{both_are, IsOutside, compare_fits, compare_false_fits, null_fits, exist_fit, for_all_fit, negation_fits, nothing_fits, everything_fits, one_and, one_or}
 use Rattle.truth_laws.proofs.Outside.{AreOutside, fewer, one_inside}
 

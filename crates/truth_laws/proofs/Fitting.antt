@@ -31,7 +31,7 @@ use Rattle.sort_formula.specs.Sides.{Scope, side_of, added_to, is_null_term, not
 use Rattle.sort_formula.specs.Translation.{exist_rows, for_all_rows}
 use Rattle.sort_formula.proofs.Fitting.{fits_atom, fits_and, fits_or, fits_exists, fits_forall}
 use Rattle.sort_formula.proofs.Holding.{negated_of_atom, negated_and, negated_or, negated_exists, negated_forall}
-use Rattle.sort_formula.proofs.Lists.{both_left, both_right}
+use Rattle.lint_base.proofs.Lists.{both_left, both_right}
 use Rattle.truth_laws.proofs.Cells.{variable_too, no_null_kind}
 use Rattle.truth_laws.proofs.Comparing.{negation_compares}
 use Rattle.truth_laws.proofs.Outside.{IsTableOf}

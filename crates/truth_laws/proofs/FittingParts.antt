@@ -20,7 +20,7 @@ use Rattle.lint_core.specs.Predicates.{first_or, predicates, with_replaced}
 use Rattle.lint_core.proofs.Parted.{conjuncts_true, conjuncts_false, conjuncts_and, conjuncts_or, conjuncts_not, conjuncts_compare, conjuncts_is_null, conjuncts_exists, conjuncts_in, conjuncts_scalar}
 use Rattle.lint_core.proofs.Parted.{replaced_true, replaced_false, replaced_and, replaced_or, replaced_not, replaced_compare, replaced_is_null, replaced_exists, replaced_in_subquery, replaced_scalar}
 use Rattle.lint_core.proofs.Parted.{replaced_among, block_replaced}
-use Rattle.sort_formula.proofs.Lists.{both_left, both_right}
+use Rattle.lint_base.proofs.Lists.{both_left, both_right}
 use Rattle.truth_laws.proofs.Fitting.{both_are}
 use Rattle.truth_laws.proofs.Layers.{block_fit, fits_and, fits_or, fits_not, fits_exists, fits_in, fits_scalar}
 

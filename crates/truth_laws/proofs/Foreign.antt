@@ -19,7 +19,7 @@ use Rattle.sort_formula.specs.declared.formula.Formula.TheVariants as f
 use Rattle.sort_formula.specs.Axioms.{Axiom, pair_equal, foreign_sentence, foreign_axioms, is_text_column}
 use Rattle.sort_formula.specs.Holds.{holds, cell_value}
 use Rattle.sort_formula.proofs.Holding.{holds_atom, holds_and, holds_or, holds_exists, holds_forall}
-use Rattle.sort_formula.proofs.Lists.{any_map, any_alike, both_left, both_right}
+use Rattle.lint_base.proofs.Lists.{any_map, any_alike, both_left, both_right}
 use Rattle.truth_laws.proofs.Tests.{place_in, over_all, over_some}
 use Rattle.truth_laws.proofs.Values.{cell_is, is_of, one_kind, equal_say}
 

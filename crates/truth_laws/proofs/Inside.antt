@@ -19,7 +19,7 @@ use Rattle.lint_core.specs.Naming.{names, term_names}
 use Rattle.sort_formula.specs.Sides.{Scope, from_number}
 use Rattle.sort_formula.specs.Standpoint.{IsRowOf, StandsFor}
 use Rattle.sort_formula.specs.Translation.{inside}
-use Rattle.sort_formula.proofs.Lists.{slice_get_front, slice_get_past as get_after, slice_get_within, slice_get_last}
+use Rattle.lint_base.proofs.Lists.{slice_get_front, slice_get_past as get_after, get_before, slice_get_last}
 use Rattle.truth_laws.proofs.Fits.{same_number}
 use Rattle.truth_laws.proofs.Leaves.{TermStands}
 use Rattle.truth_laws.proofs.Outside.{variable_at, variable_past, length_from, lengths_inside}
@@ -29,7 +29,7 @@ use Rattle.truth_laws.proofs.Quantified.{place_in, places_in}
 
 module _ (levels : List (List ℕ)) (own : List ℕ) (level entry : ℕ) where
   pub at_outer : level < length levels → at_entry (levels ++ own ∷ []) level entry ≡ at_entry levels level entry
-  at_outer low = ap (option_and_then (λ entries. slice_get entries entry)) (slice_get_within levels (own ∷ []) level low)
+  at_outer low = ap (option_and_then (λ entries. slice_get entries entry)) (get_before levels (own ∷ []) level low)
 
   pub at_own : level ≡ length levels → at_entry (levels ++ own ∷ []) level entry ≡ slice_get own entry
   at_own same = ap (λ level. at_entry (levels ++ own ∷ []) level entry) same ∙ ap (option_and_then (λ entries. slice_get entries entry)) (slice_get_last levels own)

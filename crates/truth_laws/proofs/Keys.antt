@@ -17,7 +17,7 @@ use Rattle.sort_formula.specs.declared.formula.Formula.TheVariants as f
 use Rattle.sort_formula.specs.Axioms.{Axiom, key_column, key_axiom, different_cells, is_text_column}
 use Rattle.sort_formula.specs.Holds.{holds}
 use Rattle.sort_formula.proofs.Holding.{holds_atom, holds_or, holds_forall}
-use Rattle.sort_formula.proofs.Lists.{both_left, both_right, not_and}
+use Rattle.lint_base.proofs.Lists.{both_left, both_right, not_and}
 use Rattle.truth_laws.proofs.Tests.{all_where, place_in, over_all}
 use Rattle.truth_laws.proofs.Values.{cell_is, has_column, different_say}
 

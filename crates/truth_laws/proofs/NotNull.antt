@@ -19,7 +19,7 @@ use Rattle.sort_formula.specs.declared.formula.Formula.TheVariants as f
 use Rattle.sort_formula.specs.Axioms.{Axiom, not_null_axiom, not_null_axioms}
 use Rattle.sort_formula.specs.Holds.{holds}
 use Rattle.sort_formula.proofs.Holding.{holds_atom, holds_forall}
-use Rattle.sort_formula.proofs.Lists.{both_right, all_alike}
+use Rattle.lint_base.proofs.Lists.{both_right, all_alike}
 use Rattle.truth_laws.proofs.Tests.{all_where, all_both, all_true, all_places}
 use Rattle.truth_laws.proofs.Values.{rows_are}
 

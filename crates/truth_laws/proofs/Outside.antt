@@ -2,14 +2,14 @@
 use Rattle.std.proofs.Common.{◌≡◌, ◌∙◌, ◌≤◌, ◌<◌, ◌+◌, add-one, sym, ap, refl, subst, ℕ, zero, suc, Bool, true, List, [], ◌∷◌, ◌++◌, length, map, inl, inr, arith}
 use Rattle.std.proofs.lemmas.Bool.{cases_lt}
 use Rattle.std.proofs.lemmas.List.{length-append, length-map}
-use Rattle.std.proofs.lemmas.Option.{slice_get-map, slice_get_past as past_end}
+use Rattle.std.proofs.lemmas.Option.{slice_get-map, get_behind as past_end}
 use Rattle.std.specs.Option.{option_map}
 use Rattle.std.specs.Prelude.{Some, None, slice_get, option_and_then}
 use Rattle.lint_core.specs.Condition.{at_entry}
 use Rattle.lint_core.specs.Database.{below}
 use Rattle.sort_formula.specs.Sides.{Scope, from_number}
 use Rattle.sort_formula.specs.Translation.{inside}
-use Rattle.sort_formula.proofs.Lists.{slice_get_front, slice_get_past, slice_get_last}
+use Rattle.lint_base.proofs.Lists.{slice_get_front, get_behind, slice_get_last}
 
 length_below : (n : ℕ) → length (below n) ≡ n
 length_below zero = refl
@@ -42,7 +42,7 @@ own_tables outside own depth entry deep =
     elim (cases_lt entry (length own)) [
       | inl low ↦
           ap (option_and_then (slice_get (outside ++ own))) (variable_at depth (length own) entry low)
-          ∙ (ap (λ n. slice_get (outside ++ own) (n + entry)) (sym deep) ∙ slice_get_past outside own entry)
+          ∙ (ap (λ n. slice_get (outside ++ own) (n + entry)) (sym deep) ∙ get_behind outside own entry)
       | inr high ↦
           ap (option_and_then (slice_get (outside ++ own))) (variable_past depth (length own) entry high)
           ∙ sym (past_end own entry high)

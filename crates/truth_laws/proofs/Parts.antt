@@ -28,7 +28,7 @@ use Rattle.sort_formula.specs.Sides.{Scope, everything, nothing, is_null_formula
 use Rattle.sort_formula.specs.Standpoint.{StandsFor}
 use Rattle.sort_formula.specs.Translation.{Both, translation, swapped_if, is_true_formula, is_false_formula}
 use Rattle.sort_formula.proofs.Holding.{holds_and, holds_or}
-use Rattle.sort_formula.proofs.Lists.{any_map, both_left, both_right}
+use Rattle.lint_base.proofs.Lists.{any_map, both_left, both_right}
 use Rattle.truth_laws.proofs.Inside.{term_stands, part_stands}
 use Rattle.truth_laws.proofs.Layers.{translation_true, translation_false, translation_and, translation_or, translation_not, translation_compare, translation_is_null, fits_and, fits_or, fits_not, fits_compare, fits_is_null, names_and, names_or, names_not, names_compare, names_is_null}
 use Rattle.truth_laws.proofs.Leaves.{compare_true, compare_false, null_says}

@@ -9,7 +9,7 @@ use Rattle.sort_formula.specs.declared.formula.Formula.{Formula}
 use Rattle.sort_formula.specs.Holds.{holds}
 use Rattle.sort_formula.specs.Translation.{exist_rows, for_all_rows}
 use Rattle.sort_formula.proofs.Holding.{holds_exists, holds_forall}
-use Rattle.sort_formula.proofs.Lists.{any_map, any_alike, all_alike}
+use Rattle.lint_base.proofs.Lists.{any_map, any_alike, all_alike}
 
 any_flat : {A B : Type 0} (f : A → List B) (p : B → Bool) (xs : List A) → list_any p (flat_map f xs) ≡ list_any (λ x. list_any p (f x)) xs
 any_flat f p [] = refl

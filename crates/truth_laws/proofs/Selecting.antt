@@ -17,7 +17,7 @@ use Rattle.lint_core.specs.Condition.{Inner, selected, exists_truth, in_truth, s
 use Rattle.lint_core.specs.Database.{below, rows_of, row_lists}
 use Rattle.lint_core.specs.Evaluation.{and_then, map_ok}
 use Rattle.lint_core.specs.Truth.{is_true, is_false, greatest, or_of}
-use Rattle.sort_formula.proofs.Lists.{any_map}
+use Rattle.lint_base.proofs.Lists.{any_map}
 
 -- ---- lists
 

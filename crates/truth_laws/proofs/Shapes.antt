@@ -13,7 +13,7 @@ use Rattle.lint_core.specs.Database.{rows_of}
 use Rattle.lint_core.specs.Fits.{cond_fits, block_fits, selection_fits, query_fits, main_tables, count_conditions}
 use Rattle.lint_core.specs.Fits as fitting
 use Rattle.lint_core.specs.Points.{are_rows, is_binding, with_row}
-use Rattle.sort_formula.proofs.Lists.{both_left, both_right}
+use Rattle.lint_base.proofs.Lists.{both_left, both_right}
 use Rattle.truth_laws.proofs.Fitting.{both_are}
 use Rattle.truth_laws.proofs.FittingParts.{inner_fits}
 use Rattle.truth_laws.proofs.Layers.{block_fit_is}

@@ -39,7 +39,7 @@ use Rattle.sort_formula.specs.Standpoint.{IsRowOf, StandsFor}
 use Rattle.sort_formula.specs.Translation.{inside, is_true_formula, exist_rows, for_all_rows, exists_both, in_both, scalar_both, swapped_if}
 use Rattle.formula_laws.proofs.Complements.{complements}
 use Rattle.sort_formula.proofs.Holding.{holds_and, holds_or}
-use Rattle.sort_formula.proofs.Lists.{both_left, both_right}
+use Rattle.lint_base.proofs.Lists.{both_left, both_right}
 use Rattle.truth_laws.proofs.Inside.{term_stands, part_stands, inside_stands, same_entries, outer_value}
 use Rattle.truth_laws.proofs.Fits.{first_there, compares_inside, cond_fits as condition_fits}
 use Rattle.truth_laws.proofs.Layers.{block_fit, block_parts, translation_exists, translation_in, translation_scalar, fits_exists, fits_in, fits_scalar, names_exists, names_in, names_scalar}

@@ -6,7 +6,7 @@ use Rattle.std.specs.List.{list_any, list_all}
 use Rattle.std.specs.Prelude.{Option, Some, slice_get}
 use Rattle.lint_core.specs.declared.database.Database.{Database}
 use Rattle.lint_core.specs.Database.{Place, below, rows_of, places_of}
-use Rattle.sort_formula.proofs.Lists.{any_map, both_left, both_right, all_alike, any_alike}
+use Rattle.lint_base.proofs.Lists.{any_map, both_left, both_right, all_alike, any_alike}
 
 -- two tests that agree where a third says yes agree on a list of which that says yes
 pub all_where : {A : Type 0} (t p q : A → Bool) → ((x : A) → t x ≡ true → p x ≡ q x) → (xs : List A) → list_all t xs ≡ true → list_all p xs ≡ list_all q xs

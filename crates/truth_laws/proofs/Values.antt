@@ -31,7 +31,7 @@ use Rattle.sort_formula.specs.Rows.{tables_of_rows}
 use Rattle.sort_formula.specs.Sentences.{is_number_kind, kind_at}
 use Rattle.formula_laws.proofs.Cells.{may_be_number, may_be_text, number_side, text_side}
 use Rattle.sort_formula.proofs.Holding.{holds_atom, holds_and}
-use Rattle.sort_formula.proofs.Lists.{both_left, both_right}
+use Rattle.lint_base.proofs.Lists.{both_left, both_right}
 
 -- NULL or a text; NULL or a number
 abbrev pub is_of : Bool → Value → Bool

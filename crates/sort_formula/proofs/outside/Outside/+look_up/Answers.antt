@@ -3,7 +3,7 @@ use Rattle.std.proofs.lemmas.Grind.{common_steps}
 use Rattle.std.proofs.lemmas.List.{length-append}
 use Rattle.std.specs.Prelude.{slice_get}
 use Rattle.sort_formula.specs.Standing.{tables_outside}
-use Rattle.sort_formula.proofs.Lists.{slice_get_within, slice_get_last}
+use Rattle.lint_base.proofs.Lists.{get_before, slice_get_last}
 use Rattle.sort_formula.proofs.Standing.{tables_inside}
 use Rattle.sort_formula.proofs.outside.Outside.+look_up.Goals as goal
 
@@ -12,7 +12,7 @@ returns-in-Ok-clause-there t c =
     let tables = tables_outside c.in-Quantifier.outer.now in
     let low : c.args.row < length tables = c.in-Ok.ensures.there.0 in
     rw (c.in-Quantifier.is, tables_inside c.in-Quantifier.table c.in-Quantifier.outer, length-append tables (c.in-Quantifier.table ∷ []))
-    (omega arith, slice_get_within tables (c.in-Quantifier.table ∷ []) c.args.row low ∙ c.in-Ok.ensures.there.1)
+    (omega arith, get_before tables (c.in-Quantifier.table ∷ []) c.args.row low ∙ c.in-Ok.ensures.there.1)
 
 pub returns-in-Err-eq0-clause-there : goal.returns-in-Err-eq0-clause-there
 returns-in-Err-eq0-clause-there t c =
