@@ -15,7 +15,7 @@ use Rattle.sort_formula.specs.Sentences.{formula_fits, is_sentence}
 use Rattle.sort_formula.specs.Sides.{Scope}
 use Rattle.sort_formula.specs.Translation.{is_false_formula}
 use Rattle.lint_base.proofs.Lists.{both_left, both_right}
-use Rattle.truth_formula.specs.Bounds.{is_within}
+use Rattle.sort_formula.specs.Bounds.{is_within}
 use Rattle.truth_formula.specs.declared.scope.Scope.{Scope as Given}
 use Rattle.truth_formula.specs.Scopes.{CanStand, count_entries, entries_step, block_step}
 use Rattle.truth_laws.proofs.Bound.{condition_joins_none, negated_is_bound}

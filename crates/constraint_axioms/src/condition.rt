@@ -6,7 +6,7 @@ ghost use Rattle.sort_formula.specs.Negated.{negated};
 ghost use Rattle.sort_formula.specs.Translation.{is_false_formula};
 ghost use Rattle.sort_formula.specs.declared.formula.Formula.TheVariants as f;
 ghost use Rattle.constraint_axioms.specs.Spoken.{spoken};
-ghost use Rattle.truth_formula.specs.Bounds.{is_within};
+ghost use Rattle.sort_formula.specs.Bounds.{is_within};
 ghost use Rattle.truth_formula.specs.Scopes.{CanStand, standing};
 
 use crate::axiom::Axiom;

@@ -16,3 +16,4 @@ pub mod Counters
 pub mod Loose
 pub mod Standpoint
 pub mod Rows
+pub mod Bounds

@@ -3,7 +3,7 @@
 //! The layer above may use the types, `negate`, `place`, `Sentence` and its calls, and the copies. Of `specs/`
 //! a reader must believe `Holds` (when a formula holds), `Negated` and `Placed` (what `negate` and `place`
 //! make), `Variables` (`is_numbered_from`: which formulas `place` takes), `Sentences` (what a sentence is), `Nodes`,
-//! and `Rows`, which the laws speak of. The laws `negation_complements` and `placing_renames` of `formula_laws` say what
+//! `Bounds`, and `Rows`, which the laws speak of. The laws `negation_complements` and `placing_renames` of `formula_laws` say what
 //! `negate` and `place` are for.
 //!
 //! When the steps of a certificate are accepted is defined in `Certificate`, with `Facts`, `Rings` and `Chains`; none of

@@ -5,7 +5,7 @@ ghost use Rattle.lint_core.specs.Fits.{tables_of};
 ghost use Rattle.lint_tables.specs.Operators.{negation};
 ghost use Rattle.sort_formula.specs.Negated.{negated};
 ghost use Rattle.sort_formula.specs.Translation.{exists_both, is_false_formula, is_true_formula, translation};
-ghost use Rattle.truth_formula.specs.Bounds.{is_within};
+ghost use Rattle.sort_formula.specs.Bounds.{is_within};
 ghost use Rattle.truth_formula.specs.HalfOpen.{is_half_open};
 ghost use Rattle.truth_formula.specs.Levels.{scope_of};
 ghost use Rattle.truth_formula.specs.Parts.{block_translation, chosen, count_block, every_row, joined, quantified, some_row};

@@ -27,7 +27,7 @@ use Rattle.sort_formula.specs.Sides.{Scope, compare_formula, is_null_formula, no
 use Rattle.sort_formula.specs.Translation.{translation}
 use Rattle.sort_formula.proofs.Fitting.{bound_parts, fits_atom, fits_and, fits_or, fits_exists, fits_forall}
 use Rattle.lint_base.proofs.Lists.{both_left, both_right}
-use Rattle.truth_formula.specs.Bounds.{atom_is_within, is_within}
+use Rattle.sort_formula.specs.Bounds.{atom_is_within, is_within}
 use Rattle.truth_laws.proofs.Atoms.{all_atoms, atoms_atom, atoms_and, atoms_or, atoms_exists, atoms_forall, weaker, negated_passes, translation_passes, fails_passes, compare_passes, null_passes_too}
 use Rattle.truth_laws.proofs.Fitting.{both_are, negation_fits}
 

@@ -19,7 +19,7 @@ use Rattle.lint_core.specs.Naming.{names, term_names}
 use Rattle.sort_formula.specs.Sides.{Scope, from_number}
 use Rattle.sort_formula.specs.Standpoint.{IsRowOf, StandsFor}
 use Rattle.sort_formula.specs.Translation.{inside}
-use Rattle.lint_base.proofs.Lists.{slice_get_front, slice_get_past as get_after, get_before, slice_get_last}
+use Rattle.lint_base.proofs.Lists.{slice_get_front, get_behind as get_after, get_before, slice_get_last}
 use Rattle.truth_laws.proofs.Fits.{same_number}
 use Rattle.truth_laws.proofs.Leaves.{TermStands}
 use Rattle.truth_laws.proofs.Outside.{variable_at, variable_past, length_from, lengths_inside}

@@ -2,7 +2,7 @@
 use Rattle.std.proofs.Common.{◌≡◌, ◌∙◌, ◌≤◌, ◌<◌, ◌+◌, add-one, sym, ap, refl, subst, ℕ, zero, suc, Bool, true, List, [], ◌∷◌, ◌++◌, length, map, inl, inr, arith}
 use Rattle.std.proofs.lemmas.Bool.{cases_lt}
 use Rattle.std.proofs.lemmas.List.{length-append, length-map}
-use Rattle.std.proofs.lemmas.Option.{slice_get-map, get_behind as past_end}
+use Rattle.std.proofs.lemmas.Option.{slice_get-map, slice_get_past as past_end}
 use Rattle.std.specs.Option.{option_map}
 use Rattle.std.specs.Prelude.{Some, None, slice_get, option_and_then}
 use Rattle.lint_core.specs.Condition.{at_entry}

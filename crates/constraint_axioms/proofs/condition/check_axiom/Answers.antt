@@ -4,7 +4,7 @@ use Rattle.sort_formula.specs.Negated.{negated}
 use Rattle.sort_formula.specs.Sentences.{is_sentence}
 use Rattle.sort_formula.specs.Translation.{is_false_formula}
 use Rattle.truth_formula.specs.declared.scope.Scope.{Scope}
-use Rattle.truth_formula.specs.Bounds.{is_within}
+use Rattle.sort_formula.specs.Bounds.{is_within}
 use Rattle.truth_formula.specs.Scopes.{CanStand, standing}
 use Rattle.constraint_axioms.proofs.Violations.{can_stand, check_sentence}
 use Rattle.constraint_axioms.proofs.condition.check_axiom.Goals as goal

@@ -2,7 +2,7 @@ use Rattle.std.proofs.Common.{◌≡◌, ◌∙◌, ◌^◌, ap₂, true, false}
 use Rattle.std.proofs.lemmas.Result.{IfOk-weaker}
 use Rattle.sort_formula.specs.Translation.{is_false_formula, translation}
 use Rattle.truth_formula.specs.declared.levels.Levels.TheVariants as levels
-use Rattle.truth_formula.specs.Bounds.{is_within}
+use Rattle.sort_formula.specs.Bounds.{is_within}
 use Rattle.truth_formula.specs.HalfOpen.{is_half_open}
 use Rattle.truth_formula.specs.Levels.{scope_of}
 use Rattle.truth_formula.specs.Parts.{chosen}
