@@ -26,7 +26,7 @@ use Rattle.sort_formula.specs.Sentences.{formula_fits, atom_fits, is_number_side
 use Rattle.formula_laws.proofs.Cells.{may_be_number, may_be_text, number_side, text_side}
 use Rattle.sort_formula.proofs.Fitting.{fits_atom, fits_and, fits_or, fits_exists, fits_forall}
 use Rattle.sort_formula.proofs.Holding.{holds_atom, holds_and, holds_or, holds_exists, holds_forall, negated_of_atom, negated_and, negated_or, negated_exists, negated_forall}
-use Rattle.lint_base.proofs.Lists.{not_and, not_or, not_not, both_left, both_right}
+use Rattle.lint_base.proofs.Lists.{not_and, not_or, not_not, or_false, both_left, both_right}
 
 -- ---- comparisons of two values
 
@@ -46,10 +46,6 @@ le_fails (Int a) Null most left right = refl
 le_fails (Int a) (Int b) most left right = le_opposite a b most
 le_fails (Int a) (Text b) most left right = cc
 le_fails (Text a) w most left right = cc
-
-or_false : (b : Bool) → (b || false) ≡ b
-or_false true = refl
-or_false false = refl
 
 same_fails : (v w : Value) → may_be_text v ≡ true → may_be_text w ≡ true → one_fails v w (are_texts not v w) ≡ not (are_texts (λ same. same) v w)
 same_fails Null Null left right = refl

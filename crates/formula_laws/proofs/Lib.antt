@@ -7,3 +7,5 @@ pub mod Linked
 pub mod RingSums
 pub mod RingEdges
 pub mod StepsRealized
+pub mod Composing
+pub mod WrongSteps

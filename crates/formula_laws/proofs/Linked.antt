@@ -25,8 +25,9 @@ use Rattle.sort_formula.specs.declared.formula.Atom.TheVariants as atom
 use Rattle.sort_formula.specs.Chains.{turned, path_end, is_cell, says_not_null, null_clash, is_null_clash, same_clash, is_same_clash, equal_sides, text_cells, same_cells, back, ends_of, chain_end, chain_leads_to, text_clash, are_two_texts, constants_clash, is_text_clash}
 use Rattle.sort_formula.specs.Facts.{Branch, atom_of, same_rows_of, domain_at, is_same_side}
 use Rattle.sort_formula.specs.Holds.{cell_value, side_value, differ_by_at_most, are_texts, is_same_place}
+use Rattle.sort_formula.specs.Realized.{Realized}
 use Rattle.formula_laws.proofs.Named.{Says}
-use Rattle.formula_laws.proofs.Realized.{Realized, OnePlace, says, one_place}
+use Rattle.formula_laws.proofs.Realized.{OnePlace, says, one_place}
 
 -- ---- tests of an option, texts and sides
 

@@ -14,13 +14,7 @@ use Rattle.sort_formula.specs.declared.formula.Atom.{Atom}
 use Rattle.sort_formula.specs.declared.formula.Atom.TheVariants as atom
 use Rattle.sort_formula.specs.Facts.{side_at, sides_at, rows_at, cell_at, atom_at}
 use Rattle.sort_formula.specs.Holds.{cell_value, side_value, differ_by_at_most, are_texts, is_same_place, atom_holds}
-
--- each row number stands for the place beside it
-abbrev pub Names : List Place → List ℕ → List Place → Type 0
-Names places [] [] = ⊤
-Names places [] (p ∷ ps) = ⊥
-Names places (r ∷ rs) [] = ⊥
-Names places (r ∷ rs) (p ∷ ps) = (slice_get places r ≡ Some p) × Names places rs ps
+use Rattle.sort_formula.specs.Realized.{Names}
 
 -- more places change nothing
 pub names_more : (places more : List Place) (rs : List ℕ) (ps : List Place) → Names places rs ps → Names (places ++ more) rs ps

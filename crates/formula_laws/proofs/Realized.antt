@@ -1,34 +1,22 @@
--- A branch is realized by places of a database: one of its table for each row, which is there, at which every fact holds.
-use Rattle.std.proofs.Common.{◌≡◌, ◌∙◌, sym, ap, ap₂, refl, subst, ℕ, true, List, length, map}
+-- What is known of the places that realize a branch: their tables, what the atoms of facts say of them, and that two rows
+-- which a fact says are one have one place.
+use Rattle.std.proofs.Common.{◌≡◌, ◌∙◌, sym, ap, ap₂, refl, subst, ℕ, true, List, map}
 use Rattle.std.proofs.lemmas.Bool.{and_parts, eqb-true}
 use Rattle.std.proofs.lemmas.Option.{option_and_then_some, same_Some, slice_get-map}
-use Rattle.std.specs.Prelude.{Option, Some, None, slice_get, nat_lt, nat_eq}
-use Rattle.std.specs.List.{AllByRecursion}
+use Rattle.std.specs.Prelude.{Option, Some, None, slice_get, nat_eq}
 use Rattle.std.specs.Option.{option_map}
 use Rattle.lint_base.proofs.Lists.{every_at}
 use Rattle.lint_core.specs.declared.database.Database.{Database}
-use Rattle.lint_core.specs.Database.{Place, rows_of}
+use Rattle.lint_core.specs.Database.{Place}
 use Rattle.sort_formula.specs.declared.formula.Atom.{Atom}
 use Rattle.sort_formula.specs.declared.formula.Atom.TheVariants as atom
 use Rattle.sort_formula.specs.declared.formula.Formula.{Formula, out-Formula}
 use Rattle.sort_formula.specs.declared.formula.Formula.TheOpen.{Formula-F}
 use Rattle.sort_formula.specs.Facts.{Fact, Branch, atom_in, atom_of, same_rows_in, same_rows_of}
-use Rattle.sort_formula.specs.Holds.{holds, is_same_place}
+use Rattle.sort_formula.specs.Holds.{is_same_place}
 use Rattle.sort_formula.proofs.Holding.{layer_holds, holds_out}
-use Rattle.formula_laws.proofs.Named.{Names, Says, says_atom}
-
--- the fact holds at the places that its rows name
-abbrev pub Stands : Database → List Place → Fact → Type 0
-Stands db places fact = (ps : List Place) × Names places fact.rows ps × (holds db fact.formula ps ≡ true)
-
--- the database has a row at the place
-abbrev pub HasRow : Database → Place → Type 0
-HasRow db place = nat_lt place.row (length (rows_of db place.table)) ≡ true
-
-pub record Realized (db : Database) (branch : Branch) (places : List Place) : Type 0 where
-  pub tables : map (λ (p : Place). p.table) places ≡ branch.tables
-  pub rows : AllByRecursion (HasRow db) places
-  pub facts : AllByRecursion (Stands db places) branch.facts
+use Rattle.sort_formula.specs.Realized.{Names, Stands, Realized}
+use Rattle.formula_laws.proofs.Named.{Says, says_atom}
 
 -- the table of a place among the branch's tables
 pub table_at : (places : List Place) (tables : List ℕ) (i : ℕ) (place : Place) → map (λ (p : Place). p.table) places ≡ tables →

@@ -8,7 +8,6 @@ use Rattle.std.proofs.lemmas.Option.{option_and_then_some, same_Some}
 use Rattle.std.specs.Prelude.{Option, Some, None, slice_get, unwrap_or, option_and_then, nat_le, int_lt, ⊤}
 use Rattle.std.specs.List.{AllByRecursion}
 use Rattle.std.specs.Option.{option_map_or}
-use Rattle.lint_base.proofs.Lists.{all_at}
 use Rattle.lint_core.specs.declared.schema.Domain.{Domain}
 use Rattle.lint_core.specs.declared.schema.Domain.TheVariants.{Number, Text}
 use Rattle.lint_core.specs.declared.schema.Column.{Column}
@@ -30,9 +29,10 @@ use Rattle.sort_formula.specs.declared.formula.Atom.TheVariants as atom
 use Rattle.sort_formula.specs.Facts.{Branch, atom_of, same_rows_of, domain_at, is_same_side}
 use Rattle.sort_formula.specs.Holds.{differ_by_at_most, side_value}
 use Rattle.sort_formula.specs.Rings.{Bound, bound_in, low_bound, high_bound, same_bound, bound_of, bounds_of, is_chain, is_ring, sum_of, is_fact, is_low, is_high, may_follow, may_follow_round, is_guarded, is_negative_ring, is_contradiction}
+use Rattle.sort_formula.specs.Realized.{Realized}
 use Rattle.formula_laws.proofs.Linked.{passes, same_side}
 use Rattle.formula_laws.proofs.Named.{Says}
-use Rattle.formula_laws.proofs.Realized.{Realized, says, one_place, table_at}
+use Rattle.formula_laws.proofs.Realized.{says, one_place, table_at}
 use Rattle.formula_laws.proofs.RingSums.{int_le_true, Bounds, ring_sum}
 
 -- a value as a number; 0 where it is none

@@ -1,9 +1,8 @@
--- A right step leads from a realized branch to a realized one among its children, so steps that close every branch
--- close none that is realized.
-use Rattle.std.proofs.Common.{◌≡◌, ◌∙◌, sym, ap, refl, subst, ℕ, Bool, true, false, ◌<◌, ◌⊎◌, inl, inr, List, [], ◌∷◌, ◌++◌, length, map, arith}
+-- A right step leads from a realized branch to one among its children that is realized by the same places, or by these
+-- and one more. So steps that close every branch close none that is realized.
+use Rattle.std.proofs.Common.{◌≡◌, ◌∙◌, sym, ap, refl, subst, ℕ, zero, suc, true, false, ◌<◌, ◌≤◌, ◌⊎◌, inl, inr, List, [], ◌∷◌, ◌++◌, length, map, arith}
 use Rattle.std.proofs.lemmas.Bool.{and_parts, or_cases, eqb-true}
-use Rattle.std.proofs.lemmas.Bool.Decides.{nat_tests}
-use Rattle.std.proofs.lemmas.List.{length-map, map-append}
+use Rattle.std.proofs.lemmas.List.{length-map, map-append, append-nil}
 use Rattle.std.proofs.lemmas.List.Folds.{list_all-map}
 use Rattle.std.proofs.lemmas.Option.{option_and_then_some, same_Some, cond_some}
 use Rattle.std.specs.Prelude.{Option, Some, slice_get, nat_lt, nat_eq}
@@ -25,10 +24,11 @@ use Rattle.sort_formula.specs.Chains.{is_null_clash, is_same_clash, is_text_clas
 use Rattle.sort_formula.specs.Facts.{Fact, Branch}
 use Rattle.sort_formula.specs.Holds.{holds}
 use Rattle.sort_formula.specs.Rings.{is_contradiction}
+use Rattle.sort_formula.specs.Realized.{Names, Stands, HasRow, Realized}
 use Rattle.sort_formula.proofs.Holding.{layer_holds, holds_out}
 use Rattle.formula_laws.proofs.Linked.{passes, no_null_clash, no_same_clash, no_text_clash}
-use Rattle.formula_laws.proofs.Named.{Names, names_more, names_next, names_new}
-use Rattle.formula_laws.proofs.Realized.{Stands, HasRow, Realized, place_at}
+use Rattle.formula_laws.proofs.Named.{names_more, names_next, names_new}
+use Rattle.formula_laws.proofs.Realized.{place_at}
 use Rattle.formula_laws.proofs.RingEdges.{no_contradiction}
 
 -- some branch of the list is realized
@@ -43,6 +43,36 @@ realized_first db (x ∷ xs) ys some = elim some [ inl here ↦ inl here | inr l
 realized_later : (db : Database) (xs ys : List Branch) → SomeRealized db ys → SomeRealized db (xs ++ ys)
 realized_later db [] ys some = some
 realized_later db (x ∷ xs) ys some = inr (realized_later db xs ys some)
+
+-- the places realize the branch, or these and one more
+abbrev pub Follows : Database → List Place → Branch → Type 0
+Follows db places branch = (more : List Place) × (length more ≤ 1) × Realized db branch (places ++ more)
+
+by_same : (db : Database) (places : List Place) (branch : Branch) → Realized db branch places → Follows db places branch
+by_same db places branch realized = ([], omega arith, subst (Realized db branch) (sym (append-nil places)) realized)
+
+-- some branch of the list is realized so
+abbrev pub SomeFollows : Database → List Place → List Branch → Type 0
+SomeFollows db places [] = ⊥
+SomeFollows db places (b ∷ bs) = Follows db places b ⊎ SomeFollows db places bs
+
+some_realized : (db : Database) (places : List Place) (bs : List Branch) → SomeFollows db places bs → SomeRealized db bs
+some_realized db places [] some = some
+some_realized db places (b ∷ bs) some =
+    elim some [ inl here ↦ inl (places ++ here.0, here.2) | inr later ↦ inr (some_realized db places bs later) ]
+
+-- that branch, by its number
+abbrev pub FollowsAt : Database → List Place → List Branch → Type 0
+FollowsAt db places bs =
+    (i : ℕ) × (child : Branch) × (slice_get bs i ≡ Some child) × (more : List Place) × (length more ≤ 1) × Realized db child (places ++ more)
+
+follows_at : (db : Database) (places : List Place) (bs : List Branch) → SomeFollows db places bs → FollowsAt db places bs
+follows_at db places [] some = absurd some
+follows_at db places (b ∷ bs) some =
+    elim some [
+      | inl here ↦ (zero, b, refl, here.0, here.1, here.2)
+      | inr later ↦ let at = follows_at db places bs later in (suc at.0, at.1, at.2, at.3, at.4, at.5)
+    ]
 
 abbrev in_table : ℕ → ℕ → Place
 in_table table row = record { table = table; row = row }
@@ -67,10 +97,10 @@ module _ (db : Database) where
   Leads children_of =
       (branch : Branch) (places : List Place) → Realized db branch places → (rs : List ℕ) (ps : List Place) → Names places rs ps →
       (layer : Formula-F Formula) → layer_holds db layer ps ≡ true → (bs : List Branch) → children_of branch rs layer ≡ Some bs →
-      SomeRealized db bs
+      SomeFollows db places bs
 
   opened_realized : (children_of : Branch → List ℕ → Formula-F Formula → Option (List Branch)) → Leads children_of → (branch : Branch) (places : List Place) →
-      Realized db branch places → (fact : ℕ) (bs : List Branch) → opened branch fact children_of ≡ Some bs → SomeRealized db bs
+      Realized db branch places → (fact : ℕ) (bs : List Branch) → opened branch fact children_of ≡ Some bs → SomeFollows db places bs
   opened_realized children_of leads branch places realized fact bs made =
       option_and_then_some (λ (x : Fact). children_of branch x.rows (out-Formula x.formula)) (slice_get branch.facts fact) bs made
       (λ x at more.
@@ -87,8 +117,8 @@ module _ (db : Database) where
   and_leads : Leads with_parts
   and_leads branch places realized rs ps names (Formula-F.And parts) stands bs made =
       let more = map (fact_of rs) parts in
-      subst (SomeRealized db) (same_Some (with_facts branch more ∷ []) bs made)
-      (inl (places, more_facts branch places realized more (parts_stand places rs ps names parts stands)))
+      subst (SomeFollows db places) (same_Some (with_facts branch more ∷ []) bs made)
+      (inl (by_same db places (with_facts branch more) (more_facts branch places realized more (parts_stand places rs ps names parts stands))))
   and_leads branch places realized rs ps names (Formula-F.Atom a) stands bs made = cc
   and_leads branch places realized rs ps names (Formula-F.Or parts) stands bs made = cc
   and_leads branch places realized rs ps names (Formula-F.Exists table body) stands bs made = cc
@@ -96,17 +126,19 @@ module _ (db : Database) where
 
   some_part : (branch : Branch) (places : List Place) → Realized db branch places → (rs : List ℕ) (ps : List Place) → Names places rs ps →
       (parts : List Formula) → list_any (λ m. m ps) (map (holds db) parts) ≡ true →
-      SomeRealized db (map (λ part. with_facts branch (fact_of rs part ∷ [])) parts)
+      SomeFollows db places (map (λ part. with_facts branch (fact_of rs part ∷ [])) parts)
   some_part branch places realized rs ps names [] some = cc
   some_part branch places realized rs ps names (part ∷ parts) some =
       elim (or_cases (holds db part ps) (list_any (λ m. m ps) (map (holds db) parts)) some) [
-        | inl here ↦ inl (places, more_facts branch places realized (fact_of rs part ∷ []) ((ps, names, here), tt))
+        | inl here ↦
+            let new : List Fact = fact_of rs part ∷ [] in
+            inl (by_same db places (with_facts branch new) (more_facts branch places realized new ((ps, names, here), tt)))
         | inr later ↦ inr (some_part branch places realized rs ps names parts later)
       ]
 
   or_leads : Leads with_each_part
   or_leads branch places realized rs ps names (Formula-F.Or parts) stands bs made =
-      subst (SomeRealized db) (same_Some (map (λ part. with_facts branch (fact_of rs part ∷ [])) parts) bs made)
+      subst (SomeFollows db places) (same_Some (map (λ part. with_facts branch (fact_of rs part ∷ [])) parts) bs made)
       (some_part branch places realized rs ps names parts stands)
   or_leads branch places realized rs ps names (Formula-F.Atom a) stands bs made = cc
   or_leads branch places realized rs ps names (Formula-F.And parts) stands bs made = cc
@@ -135,8 +167,8 @@ module _ (db : Database) where
       let count : ℕ = length (rows_of db table) in
       let found = some_below (λ row. holds db body (ps ++ in_table table row ∷ [])) count
       (sym (any_map (in_table table) (λ place. holds db body (ps ++ place ∷ [])) (below count)) ∙ stands) in
-      subst (SomeRealized db) (same_Some (with_new_row branch rs table body ∷ []) bs made)
-      (inl (places ++ in_table table found.0 ∷ [], new_row branch places realized rs ps names table body found.0 found.1 found.2))
+      subst (SomeFollows db places) (same_Some (with_new_row branch rs table body ∷ []) bs made)
+      (inl (in_table table found.0 ∷ [], omega arith, new_row branch places realized rs ps names table body found.0 found.1 found.2))
   exists_leads branch places realized rs ps names (Formula-F.And parts) stands bs made = cc
   exists_leads branch places realized rs ps names (Formula-F.Or parts) stands bs made = cc
   exists_leads branch places realized rs ps names (Formula-F.Atom a) stands bs made = cc
@@ -164,7 +196,8 @@ module _ (db : Database) where
       let there : HasRow db place.0 = every_at (HasRow db) places row place.0 realized.rows place.1 in
       let stand : Stands db places new =
       (ps ++ place.0 ∷ [], names_next places rs ps names row place.0 place.1, at_place table body ps stands place.0 same there) in
-      subst (SomeRealized db) parts.1 (inl (places, more_facts branch places realized (new ∷ []) (stand, tt)))
+      subst (SomeFollows db places) parts.1
+      (inl (by_same db places (with_facts branch (new ∷ [])) (more_facts branch places realized (new ∷ []) (stand, tt))))
   forall_leads row branch places realized rs ps names (Formula-F.Exists table body) stands bs made = cc
   forall_leads row branch places realized rs ps names (Formula-F.And parts) stands bs made = cc
   forall_leads row branch places realized rs ps names (Formula-F.Or parts) stands bs made = cc
@@ -183,21 +216,29 @@ closed_is (b ∷ bs) closed = cc
 
 module _ (schema : List Table) (db : Database) (domains : is_of_domains schema db ≡ true) where
   -- a right step's children: one of them is realized where the branch is
-  step_realized : (branch : Branch) (places : List Place) → Realized db branch places → (s : Step) (bs : List Branch) →
-      children schema branch s ≡ Some bs → SomeRealized db bs
-  step_realized branch places realized (step.And fact) bs made = opened_realized db with_parts (and_leads db) branch places realized fact bs made
-  step_realized branch places realized (step.Or fact) bs made = opened_realized db with_each_part (or_leads db) branch places realized fact bs made
-  step_realized branch places realized (step.Ex fact) bs made = opened_realized db with_row (exists_leads db) branch places realized fact bs made
-  step_realized branch places realized (step.All fact row) bs made =
+  step_follows : (branch : Branch) (places : List Place) → Realized db branch places → (s : Step) (bs : List Branch) →
+      children schema branch s ≡ Some bs → SomeFollows db places bs
+  step_follows branch places realized (step.And fact) bs made = opened_realized db with_parts (and_leads db) branch places realized fact bs made
+  step_follows branch places realized (step.Or fact) bs made = opened_realized db with_each_part (or_leads db) branch places realized fact bs made
+  step_follows branch places realized (step.Ex fact) bs made = opened_realized db with_row (exists_leads db) branch places realized fact bs made
+  step_follows branch places realized (step.All fact row) bs made =
       opened_realized db (at_row row) (forall_leads db row) branch places realized fact bs made
-  step_realized branch places realized (step.Sum edges) bs made =
+  step_follows branch places realized (step.Sum edges) bs made =
       absurd (no_contradiction schema db domains branch places realized edges (cond_some (is_contradiction schema branch edges) [] bs made).0)
-  step_realized branch places realized (step.Text last edges) bs made =
+  step_follows branch places realized (step.Text last edges) bs made =
       absurd (no_text_clash db branch places realized schema last edges (cond_some (is_text_clash schema branch last edges) [] bs made).0)
-  step_realized branch places realized (step.Null fact other path) bs made =
+  step_follows branch places realized (step.Null fact other path) bs made =
       absurd (no_null_clash db branch places realized fact other path (cond_some (is_null_clash branch fact other path) [] bs made).0)
-  step_realized branch places realized (step.Same fact path) bs made =
+  step_follows branch places realized (step.Same fact path) bs made =
       absurd (no_same_clash db branch places realized fact path (cond_some (is_same_clash branch fact path) [] bs made).0)
+
+  pub step_realized : (branch : Branch) (places : List Place) → Realized db branch places → (s : Step) (bs : List Branch) →
+      children schema branch s ≡ Some bs → SomeRealized db bs
+  step_realized branch places realized s bs made = some_realized db places bs (step_follows branch places realized s bs made)
+
+  pub some_child : (branch : Branch) (places : List Place) → Realized db branch places → (s : Step) (bs : List Branch) →
+      children schema branch s ≡ Some bs → FollowsAt db places bs
+  some_child branch places realized s bs made = follows_at db places bs (step_follows branch places realized s bs made)
 
   -- steps that close all branches leave none that is realized
   none_realized : (steps : List Step) (branches : List Branch) → branches_after schema steps branches ≡ Some [] →

@@ -1,8 +1,9 @@
 -- When the steps of a certificate refute a sentence, given the axioms of a schema. A reader of the steps keeps open
 -- branches. At the start there is one, with the sentence as fact 0, the axioms in order as the facts after it, and no
 -- row. A step acts on the first branch: it puts its children in its place, or closes it. The steps are accepted
--- where each is right in its turn, every branch is closed and no step is left.
-use Rattle.std.specs.Prelude.{ℕ, Bool, true, false, nat_eq, List, [], ◌∷◌, ◌++◌, length, map, Option, Some, None, slice_get, option_and_then, if◌then◌else◌}
+-- where each is right in its turn, every branch is closed and no step is left. Where they are not accepted, the first
+-- step that is wrong, missing or left over has a number, counted from 1.
+use Rattle.std.specs.Prelude.{ℕ, suc, Bool, true, false, not, nat_eq, List, [], ◌∷◌, ◌++◌, length, map, Option, Some, None, is_none, slice_get, option_and_then, if◌then◌else◌}
 use Rattle.std.specs.Option.{option_map_or}
 use Rattle.lint_core.specs.declared.certificate.Step.{Step}
 use Rattle.lint_core.specs.declared.certificate.Step.TheVariants as step
@@ -80,3 +81,25 @@ are_closed (b ∷ branches) = false
 -- the steps refute the sentence
 abbrev pub accepts : List Table → Formula → List Step → Bool
 accepts schema sentence steps = option_map_or are_closed (branches_after schema steps (first_branch schema sentence ∷ [])) false
+
+-- ---- where steps go wrong
+
+-- what is next goes wrong at the open branches: no step, and a branch is open (a step is missing); a step, and no
+-- branch is open (it is left over); or a step that is not right at the first branch
+abbrev pub goes_wrong : List Table → Option Step → List Branch → Bool
+goes_wrong schema None branches = not (are_closed branches)
+goes_wrong schema (Some s) [] = true
+goes_wrong schema (Some s) (b ∷ branches) = is_none (children schema b s)
+
+-- the number of the first step that is wrong, missing or left over, where the next one has this number; none where the
+-- steps are right and close all branches
+abbrev pub first_wrong : ℕ → List Table → List Step → List Branch → Option ℕ
+first_wrong number schema [] [] = None
+first_wrong number schema [] (b ∷ branches) = Some number
+first_wrong number schema (s ∷ steps) [] = Some number
+first_wrong number schema (s ∷ steps) (b ∷ branches) =
+    option_map_or (λ bs. first_wrong (suc number) schema steps (bs ++ branches)) (children schema b s) (Some number)
+
+-- the number of the first wrong step of a certificate; none where the steps are accepted
+abbrev pub wrong_step : List Table → Formula → List Step → Option ℕ
+wrong_step schema sentence steps = first_wrong 1 schema steps (first_branch schema sentence ∷ [])

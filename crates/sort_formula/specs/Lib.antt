@@ -12,6 +12,7 @@ pub mod Facts
 pub mod Rings
 pub mod Chains
 pub mod Certificate
+pub mod Realized
 pub mod Counters
 pub mod Loose
 pub mod Standpoint

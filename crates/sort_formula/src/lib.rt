@@ -8,7 +8,8 @@
 //!
 //! When the steps of a certificate are accepted is defined in `Certificate`, with `Facts`, `Rings` and `Chains`; none of
 //! them need be believed, since the law `accepted_steps_refute` of `formula_laws` says what accepted steps show: that the
-//! sentence holds in no database of the domains in which all of `Axioms` hold.
+//! sentence holds in no database of the domains in which all of `Axioms` hold. `Realized` says when places of a
+//! database realize a branch of the steps, for the law `realized_branches_stay_open` of that crate.
 //!
 //! Of wrong bodies the contracts let through only negations, renamings and copies that answer `NoMemory` though there is
 //! memory, since no clause can say when memory ends: the cases of `worked_cases` show that formulas are made.

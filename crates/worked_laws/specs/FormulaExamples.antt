@@ -1,5 +1,5 @@
--- Sentences that a key and two texts refute, and the steps that do it, for the law `worked_steps`. A comparison and a
--- schema, for the law `worked_sentences`.
+-- Sentences that a key and two texts refute, and the steps that do it, for the laws `worked_steps` and
+-- `worked_wrong_steps`. A comparison and a schema, for the law `worked_sentences`.
 use Rattle.std.specs.Prelude.{ℕ, ℤ, pos, neg_ℤ, false, List, [], ◌∷◌, None}
 use Rattle.lint_core.specs.declared.certificate.SumEdge.TheVariants as edge
 use Rattle.lint_core.specs.declared.certificate.TextEdge.TheVariants as text

@@ -1,6 +1,6 @@
 //! The translations, sentences and accepted steps by small examples. The functions do nothing: each contract is facts about the
 //! definitions in `specs/`.
-ghost use Rattle.std.specs.Prelude.{◌≡◌, pos, neg_ℤ, true, false, List, [], ◌∷◌, Some, None};
+ghost use Rattle.std.specs.Prelude.{◌≡◌, pos, neg_ℤ, true, false, List, [], ◌∷◌, ◌++◌, take, Some, None};
 ghost use Rattle.lint_tables.specs.declared.op.Op.TheVariants.{Ne};
 ghost use Rattle.lint_core.specs.declared.condition.Cond.TheVariants.{Compare};
 ghost use Rattle.worked_laws.specs.Examples.{nowhere, number, the_column, plain, unique, select_distinct};
@@ -10,7 +10,7 @@ ghost use Rattle.sort_formula.specs.declared.formula.Formula.TheVariants.{Atom a
 ghost use Rattle.sort_formula.specs.declared.formula.Atom.TheVariants.{Le, IsNull, Same, Other};
 ghost use Rattle.sort_formula.specs.declared.formula.Side.TheVariants.{Cell, Zero};
 ghost use Rattle.sort_formula.specs.Axioms.{axioms};
-ghost use Rattle.sort_formula.specs.Certificate.{accepts};
+ghost use Rattle.sort_formula.specs.Certificate.{accepts, wrong_step};
 ghost use Rattle.sort_formula.specs.Counters.{counter_sentence};
 ghost use Rattle.worked_laws.specs.FormulaExamples.{two_rows_agree, refuted_by_key, texts, is_both, refuted_by_texts, at_most, mixed};
 ghost use Rattle.sort_formula.specs.Negated.{negated};
@@ -45,6 +45,17 @@ pub fn worked_steps()
     ensures left_out { accepts unique two_rows_agree [] ≡ false }
     ensures two_texts { accepts texts (is_both 97 98) refuted_by_texts ≡ true }
     ensures one_text { accepts texts (is_both 97 97) refuted_by_texts ≡ false }
+{}
+
+/// Accepted steps have no number of a first wrong one. A step that names another fact has its own;
+/// a missing one that behind the last, be there no step or two; one left over that of the first.
+pub fn worked_wrong_steps()
+    ensures accepted { wrong_step unique two_rows_agree (refuted_by_key 9) ≡ None }
+    ensures misnamed { wrong_step unique two_rows_agree (refuted_by_key 8) ≡ Some 7 }
+    ensures no_step { wrong_step unique two_rows_agree [] ≡ Some 1 }
+    ensures last_missing { wrong_step texts (is_both 97 98) (take 2 refuted_by_texts) ≡ Some 3 }
+    ensures left_over { wrong_step texts (is_both 97 98) (refuted_by_texts ++ refuted_by_texts) ≡ Some 4 }
+    ensures one_text { wrong_step texts (is_both 97 97) refuted_by_texts ≡ Some 3 }
 {}
 
 /// A comparison fails where its cell is NULL or where the opposite one holds, up to the ends of i128. In another place
