@@ -13,7 +13,7 @@ use Rattle.lint_tables.specs.Ways.{ways_of}
 use Rattle.lint_core.specs.declared.condition.Term.{Term}
 use Rattle.lint_core.specs.declared.condition.Term.TheVariants as term
 use Rattle.lint_core.specs.declared.schema.Table.{Table}
-use Rattle.lint_core.specs.Condition.{at_entry}
+use Rattle.lint_core.specs.Fits.{at_entry}
 use Rattle.lint_core.specs.Database.{below}
 use Rattle.lint_core.specs.Fits.{term_kind}
 use Rattle.lint_core.specs.Kind.{is_text}

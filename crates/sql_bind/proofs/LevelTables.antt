@@ -5,7 +5,7 @@ use Rattle.std.specs.Prelude.{slice_get}
 use Rattle.std.specs.Option.{option_and_then}
 use mathlib.Core.List.{reverse-cons}
 use Rattle.lint_core.specs.declared.condition.Entry.{Entry}
-use Rattle.lint_core.specs.Fits.{table_at, tables_of}
+use Rattle.lint_core.specs.Fits.{at_entry, tables_of}
 use Rattle.sql_bind.specs.declared.levels.Levels.{Levels}
 use Rattle.sql_bind.specs.declared.levels.Levels.TheVariants as levels
 use Rattle.sql_bind.specs.declared.levels.Levels.TheOpen.{Levels-F}

@@ -1,6 +1,6 @@
 //! The FROM lists that a name is looked for in.
 ghost use Rattle.std.specs.Prelude.{◌≡◌, ◌∷◌, ◌<◌, ◌+◌, ◌-◌, IfOk, IfErr, length, take, drop, slice_get};
-ghost use Rattle.lint_core.specs.Fits.{tables_of, table_at};
+ghost use Rattle.lint_core.specs.Fits.{tables_of, at_entry};
 ghost use Rattle.sql_bind.specs.Names.{level_tables, whole_level};
 ghost use Rattle.sql_bind.specs.Levels.{levels_seen};
 

@@ -4,7 +4,7 @@ use Rattle.std.proofs.lemmas.List.{length-append}
 use Rattle.std.specs.Borrow.{Bor}
 use Rattle.std.specs.Option.{option_and_then}
 use Rattle.std.specs.Prelude.{slice_get}
-use Rattle.lint_core.specs.Condition.{at_entry}
+use Rattle.lint_core.specs.Fits.{at_entry}
 use Rattle.lint_core.specs.Fits.{tables_of}
 use Rattle.lint_core.specs.declared.condition.Entry.{Entry}
 use Rattle.sql_meaning.specs.Standing.{tables_step, tables_of_levels, binding_step, binding_of_levels}

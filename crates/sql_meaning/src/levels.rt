@@ -1,6 +1,6 @@
 //! The levels that a condition stands in, linked from the inside out.
 ghost use Rattle.std.specs.Prelude.{◌≡◌, ◌<◌, ◌+◌, length, IfOk, IfErr, slice_get};
-ghost use Rattle.lint_core.specs.Condition.{at_entry};
+ghost use Rattle.lint_core.specs.Fits.{at_entry};
 ghost use Rattle.lint_core.specs.Fits.{tables_of};
 ghost use Rattle.sql_meaning.specs.Standing.{tables_of_levels, binding_of_levels};
 

@@ -6,18 +6,18 @@ use Rattle.std.proofs.lemmas.Option.{slice_get-map, slice_get_past}
 use Rattle.std.specs.Borrow.{Bor}
 use Rattle.std.specs.Option.{option_and_then}
 use Rattle.std.specs.Prelude.{Some, None, option_map, slice_get}
-use Rattle.lint_core.specs.Condition.{at_entry}
+use Rattle.lint_core.specs.Fits.{at_entry}
 use Rattle.lint_core.specs.Database.{below}
 use Rattle.lint_core.specs.Fits.{tables_of}
 use Rattle.lint_core.specs.declared.condition.Entry.{Entry}
 use Rattle.sort_formula.specs.Sides.{Scope as Standing, from_number}
 use Rattle.sort_formula.specs.Translation.{inside}
 use Rattle.truth_formula.specs.Levels.{scope_of, scope_step}
-use Rattle.truth_formula.specs.Scopes.{standing}
+
 use Rattle.truth_formula.specs.declared.levels.Levels.{Levels, fold-roll-Levels}
 use Rattle.truth_formula.specs.declared.levels.Levels.TheOpen.{Levels-F}
 use Rattle.truth_formula.specs.declared.levels.Levels.TheVariants as levels
-use Rattle.truth_formula.specs.declared.scope.Scope.{Scope}
+use Rattle.lint_core.specs.declared.scope.Scope.{Scope}
 
 get_front : {A : Type 0} (xs : List A) (y : A) (i : ℕ) → i < length xs → slice_get (xs ++ y ∷ []) i ≡ slice_get xs i
 get_front [] y i low = absurd (omega arith)

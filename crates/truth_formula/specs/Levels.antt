@@ -1,8 +1,8 @@
 -- The scope that the code links from the inside out. Nothing here has to be believed: no public contract says it.
 use Rattle.lint_core.specs.Fits.{tables_of}
-use Rattle.sort_formula.specs.Sides.{Scope}
+use Rattle.lint_core.specs.declared.scope.Scope.{Scope}
 use Rattle.sort_formula.specs.Translation.{inside}
-use Rattle.truth_formula.specs.Scopes.{standing}
+
 use Rattle.truth_formula.specs.declared.levels.Levels.{Levels, fold-Levels}
 use Rattle.truth_formula.specs.declared.levels.Levels.TheOpen.{Levels-F}
 

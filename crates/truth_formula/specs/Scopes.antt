@@ -6,7 +6,7 @@ use Rattle.lint_core.specs.declared.condition.Cond.TheOpen.{Cond-F, Block-F}
 use Rattle.lint_core.specs.declared.schema.Table.{Table}
 use Rattle.lint_core.specs.Fits.{cond_fits}
 use Rattle.sort_formula.specs.Sides as sides
-use Rattle.truth_formula.specs.declared.scope.Scope.{Scope}
+use Rattle.lint_core.specs.declared.scope.Scope.{Scope}
 
 -- the scope, as the tables of the translations take it
 abbrev pub standing : Scope → sides.Scope

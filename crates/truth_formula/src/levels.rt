@@ -1,7 +1,7 @@
 //! The levels that a condition stands in, linked from the inside out.
 ghost use Rattle.std.specs.Prelude.{◌≡◌, ◌<◌, ◌+◌, ◌^◌, length, unwrap_or, IfOk, IfErr, slice_get};
-ghost use Rattle.lint_core.specs.Condition.{at_entry};
-ghost use Rattle.lint_core.specs.Fits.{table_at, tables_of};
+ghost use Rattle.lint_core.specs.Fits.{at_entry};
+ghost use Rattle.lint_core.specs.Fits.{at_entry, tables_of};
 ghost use Rattle.sort_formula.specs.Sides.{from_number};
 ghost use Rattle.truth_formula.specs.Levels.{scope_of};
 

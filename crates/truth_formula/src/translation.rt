@@ -9,7 +9,7 @@ ghost use Rattle.truth_formula.specs.Bounds.{is_within};
 ghost use Rattle.truth_formula.specs.HalfOpen.{is_half_open};
 ghost use Rattle.truth_formula.specs.Levels.{scope_of};
 ghost use Rattle.truth_formula.specs.Parts.{block_translation, chosen, count_block, every_row, joined, quantified, some_row};
-ghost use Rattle.truth_formula.specs.Scopes.{CanStand, count_entries, standing};
+ghost use Rattle.truth_formula.specs.Scopes.{CanStand, count_entries};
 
 use crate::levels::Levels;
 use crate::scope::Scope;
@@ -257,7 +257,7 @@ pub fn is_true(
     scope: &Scope,
 ) -> Result<Formula, NoMemory>
     requires { CanStand schema.now cond.now scope.now }
-    ensures formula { IfOk result (λ f. f ≡ is_true_formula schema.now cond.now (standing scope.now)) }
+    ensures formula { IfOk result (λ f. f ≡ is_true_formula schema.now cond.now scope.now) }
     ensures bounds { IfOk result (λ f. is_within (2 ^ 65) f ≡ true) }
 {
     let levels = Levels::Given(scope);
@@ -273,7 +273,7 @@ pub fn is_false(
     scope: &Scope,
 ) -> Result<Formula, NoMemory>
     requires { CanStand schema.now cond.now scope.now }
-    ensures formula { IfOk result (λ f. f ≡ is_false_formula schema.now cond.now (standing scope.now)) }
+    ensures formula { IfOk result (λ f. f ≡ is_false_formula schema.now cond.now scope.now) }
     ensures bounds { IfOk result (λ f. is_within (2 ^ 65) f ≡ true) }
 {
     let levels = Levels::Given(scope);
