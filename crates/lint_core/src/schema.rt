@@ -310,7 +310,10 @@ fn are_paired(table: &Table, target: &Table, columns: &[u32], others: &[u32]) ->
 fn pairs_go_together(table: &Table, target: &Table, columns: &[u32], others: &[u32]) -> bool
     ensures { result ≡ list_all (λ pair. are_of_one_kind (column_kind table.now pair.0) (column_kind target.now pair.1)) (zip columns.now others.now) }
 {
-    columns.iter().zip(others).all(|(c, o)| Kind::are_of_one_kind(table.column_kind(*c), target.column_kind(*o)))
+    columns.iter().zip(others).all(|(c, o)| Kind::are_of_one_kind(
+        table.column_kind(*c),
+        target.column_kind(*o),
+    ))
 }
 
 impl Table {

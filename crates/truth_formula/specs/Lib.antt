@@ -1,5 +1,3 @@
 pub mod Scopes
 pub mod Bounds
-pub mod Levels
-pub mod HalfOpen
-pub mod Parts
+pub mod inner
