@@ -6,17 +6,17 @@ use Rattle.lint_core.specs.declared.condition.Block.{Block, fold-Block}
 use Rattle.lint_core.specs.declared.condition.Cond.{Cond, ind-Cond, roll-Cond, fold-roll-Cond, map-Cond}
 use Rattle.lint_core.specs.declared.condition.Cond.TheOpen.{Cond-F}
 use Rattle.lint_core.specs.declared.schema.Table.{Table}
-use Rattle.lint_core.specs.Condition.{at_entry}
+use Rattle.lint_core.specs.Fits.{at_entry}
 use Rattle.lint_core.specs.Fits.{cond_fits, check_fits, count_conditions, is_flat, flat_step}
 use Rattle.sort_formula.specs.declared.formula.Formula.{Formula}
 use Rattle.sort_formula.specs.declared.formula.Formula.TheVariants as f
 use Rattle.sort_formula.specs.Negated.{negated}
 use Rattle.sort_formula.specs.Sentences.{formula_fits, is_sentence}
-use Rattle.sort_formula.specs.Sides.{Scope}
+use Rattle.lint_core.specs.declared.scope.Scope.{Scope}
 use Rattle.sort_formula.specs.Translation.{is_false_formula}
 use Rattle.lint_base.proofs.Lists.{both_left, both_right}
 use Rattle.sort_formula.specs.Bounds.{is_within}
-use Rattle.truth_formula.specs.declared.scope.Scope.{Scope as Given}
+use Rattle.lint_core.specs.declared.scope.Scope.{Scope as Given}
 use Rattle.truth_formula.specs.Scopes.{CanStand, count_entries, entries_step, block_step}
 use Rattle.truth_laws.proofs.Bound.{condition_joins_none, negated_is_bound}
 use Rattle.constraint_axioms.proofs.Bounds.{bound_forall}

@@ -7,7 +7,7 @@ ghost use Rattle.sort_formula.specs.Translation.{is_false_formula};
 ghost use Rattle.sort_formula.specs.declared.formula.Formula.TheVariants as f;
 ghost use Rattle.constraint_axioms.specs.Spoken.{spoken};
 ghost use Rattle.sort_formula.specs.Bounds.{is_within};
-ghost use Rattle.truth_formula.specs.Scopes.{CanStand, standing};
+ghost use Rattle.truth_formula.specs.Scopes.{CanStand};
 
 use crate::axiom::Axiom;
 use crate::sentences::{for_all, plain};
@@ -42,8 +42,8 @@ fn row_scope(alloc: Global, number: u32) -> Result<Scope, NoMemory>
 /// The CHECK is not false there.
 fn is_kept(alloc: Global, schema: &Schema, check: &Cond, scope: &Scope) -> Result<Formula, NoMemory>
     requires { CanStand schema.now check.now scope.now }
-    ensures formula { IfOk result (λ formula. formula ≡ negated (is_false_formula schema.now check.now (standing scope.now))) }
-    ensures bounds { IfOk result (λ _. is_within (2 ^ 65) (is_false_formula schema.now check.now (standing scope.now)) ≡ true) }
+    ensures formula { IfOk result (λ formula. formula ≡ negated (is_false_formula schema.now check.now scope.now)) }
+    ensures bounds { IfOk result (λ _. is_within (2 ^ 65) (is_false_formula schema.now check.now scope.now) ≡ true) }
 {
     negate(alloc, &is_false(alloc, schema, check, scope)?)
 }

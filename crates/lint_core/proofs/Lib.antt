@@ -6,7 +6,7 @@ pub mod Alone
 pub mod Conditions
 pub mod Described
 pub mod Parted
-pub mod Levels
+pub mod LevelTables
 pub mod Fitting
 pub mod PlainWords
 pub mod FirstForms

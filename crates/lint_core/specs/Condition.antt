@@ -5,8 +5,9 @@
 -- stands, also where another part alone would decide (this project's own rule). Instead of a truth there is
 -- then the place in the text of the scalar subquery that is met first: the parts from left to right; in a
 -- subquery one inner binding after the other, in the order of `row_lists`; what a scalar subquery contains
--- before it itself. So one whose own condition has no truth at some inner binding is not named itself.
-use Rattle.std.specs.Prelude.{ℕ, Bool, List, [], ◌∷◌, ◌++◌, map, Option, Some, slice_get, unwrap_or, option_and_then, false, if◌then◌else◌}
+-- before it itself. A scalar subquery whose
+-- own condition has no truth is never the one named.
+use Rattle.std.specs.Prelude.{ℕ, Bool, List, [], ◌∷◌, ◌++◌, map, Option, Some, unwrap_or, option_and_then, false, if◌then◌else◌}
 use Rattle.std.specs.Prelude.{Ok, Err}
 use Rattle.lint_base.specs.declared.place.Span.{Span}
 use Rattle.lint_tables.specs.declared.op.Op.TheVariants.{Eq}
@@ -24,10 +25,7 @@ use Rattle.lint_core.specs.Database.{Place, value_at, row_lists}
 use Rattle.lint_core.specs.Truth.{truth_of, not_of, negated_if, and_of, or_of, is_true, is_false}
 use Rattle.lint_core.specs.Comparison.{compare, plus, is_null}
 use Rattle.lint_core.specs.Evaluation.{Evaluated, and_then, map_ok, all_ok}
-
--- what stands at a level and an entry
-abbrev pub at_entry : List (List ℕ) → ℕ → ℕ → Option ℕ
-at_entry levels level entry = option_and_then (λ entries. slice_get entries entry) (slice_get levels level)
+use Rattle.lint_core.specs.Fits.{at_entry}
 
 -- an inner binding of a block with the tables of its entries, and the truth of the block's condition there
 pub record Inner : Type 0 where

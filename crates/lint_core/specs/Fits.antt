@@ -19,9 +19,9 @@ use Rattle.lint_core.specs.declared.schema.Kind.TheVariants as kind
 use Rattle.lint_core.specs.declared.schema.Table.{Table}
 use Rattle.lint_core.specs.Kind.{column_kind, with_added, compares_both}
 
--- the table of an entry of a level
-abbrev pub table_at : List (List ℕ) → ℕ → ℕ → Option ℕ
-table_at tables level entry = option_and_then (λ entries. slice_get entries entry) (slice_get tables level)
+-- what stands at a level and an entry
+abbrev pub at_entry : List (List ℕ) → ℕ → ℕ → Option ℕ
+at_entry levels level entry = option_and_then (λ entries. slice_get entries entry) (slice_get levels level)
 
 -- nothing is added
 abbrev pub is_plain : Term → Bool
@@ -55,7 +55,7 @@ module _ (schema : List Table) where
 
   -- the kind of a term; none where it names no column, or adds to a text
   abbrev pub term_kind : List (List ℕ) → Term → Option Kind
-  term_kind tables (term.Cell level entry column added) = cell_kind (table_at tables level entry) column added
+  term_kind tables (term.Cell level entry column added) = cell_kind (at_entry tables level entry) column added
   term_kind tables (term.Number value unit) = Some (kind.Number unit)
   term_kind tables (term.Text text) = Some kind.Text
   term_kind tables term.Null = Some kind.Null

@@ -5,7 +5,7 @@ use Rattle.std.specs.Prelude.{ℕ, Bool, true, false, ◌&&◌, not, nat_eq, nat
 use Rattle.std.specs.Prelude.{insert, remove}
 use Rattle.std.specs.Cmp.Lexicographic.{pointwise}
 use Rattle.lint_core.specs.declared.database.Database.{Database}
-use Rattle.lint_core.specs.Condition.{at_entry}
+use Rattle.lint_core.specs.Fits.{at_entry}
 use Rattle.lint_core.specs.Database.{rows_of}
 
 -- one existing row of its table for each entry

@@ -10,7 +10,7 @@ ghost use Rattle.lint_core.specs.ScalarWithout.{has_scalar_without};
 
 use crate::condition::{Cond, Entry, Term};
 use crate::query::{Item, Query, Question};
-use crate::schema::{Schema, Table, one_kind};
+use crate::schema::{Kind, Schema, Table};
 
 impl Query {
     fn has_scalar_at(&self, number: u32) -> bool
@@ -55,7 +55,7 @@ impl Query {
     {
         item.is_written_column()
             && other.is_written_column()
-            && one_kind(
+            && Kind::are_of_one_kind(
                 self.main_kind(tables, &item.term),
                 self.main_kind(tables, &other.term),
             )

@@ -1,92 +1,19 @@
 //! When a query, or a CHECK, fits a schema.
-ghost use Rattle.std.specs.Prelude.{◌≡◌, [], sum_by, nat_lt, nat_le, IfSome, IfNone, ◌<◌, ◌+◌, length, IfOk, IfErr, slice_get};
+ghost use Rattle.std.specs.Prelude.{◌≡◌, [], sum_by, nat_lt, nat_le, IfSome, IfNone, ◌<◌, ◌+◌};
 ghost use Rattle.std.specs.List.{list_all};
 ghost use Rattle.lint_core.specs.declared.condition.Block.{out-Block};
-ghost use Rattle.lint_core.specs.Kind.{compares_both};
-ghost use Rattle.lint_core.specs.Fits.{tables_of, table_at, is_plain, cell_kind, term_kind, cond_fits, block_meaning, block_fits, selected_fits, item_fits, order_fits, count_conditions, is_flat, check_fits, main_tables, selection_fits_in, selection_fits, query_fits};
+ghost use Rattle.lint_core.specs.Fits.{is_plain, term_kind, cond_fits, block_meaning, block_fits, selected_fits, item_fits, order_fits, count_conditions, is_flat, check_fits, main_tables, selection_fits_in, selection_fits, query_fits};
 ghost use Rattle.lint_core.specs.Levels.{tables_of_levels};
 
 use crate::condition::{Block, Cond, Entry, Term};
 use crate::query::{Item, Query};
 use crate::schema::{Kind, Schema, Table};
+use crate::scope::Levels;
 use lint_tables::Op;
-
-/// The levels that a condition stands in, from the inside.
-#[derive(Drop)]
-enum Levels<'a> {
-    /// No level.
-    Outside,
-    /// The row of this table that a CHECK speaks of.
-    Row(u32),
-    /// A FROM list, inside other levels.
-    Inside {
-        entries: &'a [Entry],
-        outer: &'a Levels<'a>,
-    },
-}
-
-fn table_of(entries: &[Entry], entry: u32) -> Option<u32>
-    ensures { result ≡ slice_get (tables_of entries.now) entry }
-{
-    match entries.get(entry as usize) {
-        Some(found) => Some(found.table),
-        None => None,
-    }
-}
-
-impl Levels<'_> {
-    /// The table of an entry of a level, if that level has it; where there is no such level, how many
-    /// levels further in it would be.
-    fn look_up(&self, level: u32, entry: u32) -> Result<Option<u32>, u32>
-        ensures there { IfOk result (λ found. (level < length (tables_of_levels self.now)) × (found ≡ table_at (tables_of_levels self.now) level entry)) }
-        ensures further { IfErr result (λ more. more + length (tables_of_levels self.now) ≡ level) }
-    {
-        match self {
-            Levels::Outside => Err(level),
-            Levels::Row(table) => match level {
-                0 => Ok((entry == 0).then_some(*table)),
-                _ => Err(level - 1),
-            },
-            Levels::Inside { entries, outer } => match outer.look_up(level, entry) {
-                Ok(found) => Ok(found),
-                Err(0) => Ok(table_of(entries, entry)),
-                Err(further) => Err(further - 1),
-            },
-        }
-    }
-
-    /// The table of an entry of a level.
-    fn table_at(&self, level: u32, entry: u32) -> Option<u32>
-        ensures { result ≡ table_at (tables_of_levels self.now) level entry }
-    {
-        match self.look_up(level, entry) {
-            Ok(found) => found,
-            Err(_) => None,
-        }
-    }
-}
-
-fn both_compare(op: Op, left: Option<Kind>, right: Option<Kind>) -> bool
-    ensures { result ≡ compares_both op left right }
-{
-    match (left, right) {
-        (Some(left), Some(right)) => left.compares(op, right),
-        _ => false,
-    }
-}
-
-fn cell_kind(tables: &[Table], table: Option<u32>, column: u32, plus: i64) -> Option<Kind>
-    ensures { result ≡ cell_kind tables.now table column plus }
-{
-    tables
-        .get(table? as usize)?
-        .column_kind(column)?
-        .with_added(plus)
-}
 
 impl Term {
     /// What the term is, if it names an existing column and adds nothing to a text.
-    fn kind(&self, tables: &[Table], levels: &Levels) -> Option<Kind>
+    pub fn kind(&self, tables: &[Table], levels: &Levels) -> Option<Kind>
         ensures { result ≡ term_kind tables.now (tables_of_levels levels.now) self.now }
     {
         match self {
@@ -95,7 +22,7 @@ impl Term {
                 entry,
                 column,
                 plus,
-            } => cell_kind(tables, levels.table_at(*level, *entry), *column, *plus),
+            } => Kind::of_cell(tables, levels.table_at(*level, *entry), *column, *plus),
             Term::Number { unit, .. } => Some(Kind::Number(*unit)),
             Term::Text(_) => Some(Kind::Text),
             Term::Null => Some(Kind::Null),
@@ -126,7 +53,7 @@ impl Cond {
                 left,
                 right,
                 ..
-            } => both_compare(*op, left.kind(tables, levels), right.kind(tables, levels)),
+            } => Kind::both_compare(*op, left.kind(tables, levels), right.kind(tables, levels)),
             Cond::IsNull { term, .. } => term.kind(tables, levels).is_some(),
             Cond::Exists { block, .. } => block.get().fits(tables, levels),
             Cond::In {
@@ -189,7 +116,7 @@ impl Block {
         };
         self.fits(tables, outer)
             && item.is_plain()
-            && both_compare(op, left.kind(tables, outer), item.kind(tables, &levels))
+            && Kind::both_compare(op, left.kind(tables, outer), item.kind(tables, &levels))
     }
 }
 

@@ -31,6 +31,7 @@ mod naming;
 mod query;
 mod run;
 mod schema;
+mod scope;
 
 pub use certificate::{Cert, SameEdge, Step, SumEdge, TextEdge};
 pub use condition::{Block, Cond, Entry, Term};
@@ -39,3 +40,4 @@ pub use laws::first_form_is_tested;
 pub use query::{Item, Query, Question};
 pub use run::{Answer, QueryResult, QueryRun, Run};
 pub use schema::{Column, Domain, ForeignKey, Key, Kind, Schema, Table, Unit};
+pub use scope::{Levels, Scope, number_at};

@@ -1,8 +1,8 @@
 //! Schemas: tables, their columns and the columns' domains.
 ghost use Rattle.std.specs.Prelude.{◌≡◌, true, false, IfSome, IfNone, ◌≤◌, length, nat_eq, nat_lt, slice_get, Some};
 ghost use Rattle.std.specs.List.{list_all, list_any, zip};
-ghost use Rattle.lint_core.specs.Fits.{check_fits};
-ghost use Rattle.lint_core.specs.Kind.{kind_of, column_kind, are_of_one_kind, goes_with, compares, with_added};
+ghost use Rattle.lint_core.specs.Fits.{cell_kind, check_fits};
+ghost use Rattle.lint_core.specs.Kind.{kind_of, column_kind, are_of_one_kind, goes_with, compares, compares_both, with_added};
 ghost use Rattle.lint_core.specs.Schema.{is_domain, are_columns, are_keys, are_checks, is_within, are_columns_of, are_paired, refers_to, are_foreign_keys, is_table, are_tables, is_schema};
 
 use crate::condition::Cond;
@@ -67,6 +67,37 @@ impl Kind {
         match self {
             Kind::Text if added != 0 => None,
             kind => Some(kind),
+        }
+    }
+
+    /// The kind of a table's column with a number added; `None` where there is no such column, or where it
+    /// is a text to which something is added.
+    pub fn of_cell(tables: &[Table], table: Option<u32>, column: u32, plus: i64) -> Option<Kind>
+        ensures { result ≡ cell_kind tables.now table column plus }
+    {
+        tables
+            .get(table? as usize)?
+            .column_kind(column)?
+            .with_added(plus)
+    }
+
+    /// Whether both are there, and go with each other.
+    pub fn are_of_one_kind(one: Option<Kind>, other: Option<Kind>) -> bool
+        ensures { result ≡ are_of_one_kind one other }
+    {
+        match (one, other) {
+            (Some(one), Some(other)) => one.goes_with(other),
+            _ => false,
+        }
+    }
+
+    /// Whether both are there, and the operator compares them.
+    pub fn both_compare(op: Op, left: Option<Kind>, right: Option<Kind>) -> bool
+        ensures { result ≡ compares_both op left right }
+    {
+        match (left, right) {
+            (Some(left), Some(right)) => left.compares(op, right),
+            _ => false,
         }
     }
 }
@@ -245,15 +276,6 @@ fn is_among(number: u32, others: &[u32]) -> bool
     others.iter().any(|o| number == *o)
 }
 
-pub(crate) fn one_kind(one: Option<Kind>, other: Option<Kind>) -> bool
-    ensures { result ≡ are_of_one_kind one other }
-{
-    match (one, other) {
-        (Some(one), Some(other)) => one.goes_with(other),
-        _ => false,
-    }
-}
-
 impl ForeignKey {
     fn fits(&self, tables: &[Table], table: &Table) -> bool
         ensures { result ≡ refers_to table.now self.now (slice_get tables.now self.now.target) }
@@ -288,7 +310,10 @@ fn are_paired(table: &Table, target: &Table, columns: &[u32], others: &[u32]) ->
 fn pairs_go_together(table: &Table, target: &Table, columns: &[u32], others: &[u32]) -> bool
     ensures { result ≡ list_all (λ pair. are_of_one_kind (column_kind table.now pair.0) (column_kind target.now pair.1)) (zip columns.now others.now) }
 {
-    columns.iter().zip(others).all(|(c, o)| one_kind(table.column_kind(*c), target.column_kind(*o)))
+    columns.iter().zip(others).all(|(c, o)| Kind::are_of_one_kind(
+        table.column_kind(*c),
+        target.column_kind(*o),
+    ))
 }
 
 impl Table {

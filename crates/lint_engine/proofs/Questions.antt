@@ -30,7 +30,8 @@ use Rattle.sort_formula.specs.declared.formula.Formula.{Formula}
 use Rattle.sort_formula.specs.Certificate.{accepts}
 use Rattle.sort_formula.specs.Counters.{counter_sentence}
 use Rattle.sort_formula.specs.Holds.{holds}
-use Rattle.sort_formula.specs.Sides.{Scope, scope_of, from_number}
+use Rattle.lint_core.specs.declared.scope.Scope.{Scope}
+use Rattle.sort_formula.specs.Sides.{scope_of, from_number}
 use Rattle.sort_formula.specs.Standpoint.{StandsFor}
 use Rattle.sort_formula.specs.Translation.{is_true_formula}
 use Rattle.lint_engine.proofs.Failures.{tables_at, rows_at, Agrees, refuted_says}

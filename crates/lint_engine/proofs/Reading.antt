@@ -27,7 +27,8 @@ use Rattle.lint_core.specs.FirstForm.{Conjunct, conjunct_cond, where_cond, IsFir
 use Rattle.lint_core.specs.Kind.{kind_of, with_added, is_text}
 use Rattle.sort_formula.specs.Axioms.{axioms, not_null_axioms}
 use Rattle.sort_formula.specs.Counters.{counter_sentence}
-use Rattle.sort_formula.specs.Sides.{Scope, scope_of, is_text_term, compare_formula}
+use Rattle.lint_core.specs.declared.scope.Scope.{Scope}
+use Rattle.sort_formula.specs.Sides.{scope_of, is_text_term, compare_formula}
 use Rattle.sort_formula.specs.Translation.{Meaning, BlockMeaning, translation, translation_step, block_step, is_true_formula}
 use Rattle.lint_engine.specs.declared.comparison.Comparison.{Comparison}
 use Rattle.lint_engine.specs.Plan.{comparisons_among, comparisons_layer, comparisons_in}

@@ -17,14 +17,15 @@ use Rattle.lint_core.specs.declared.database.Truth.TheVariants.{False, True}
 use Rattle.lint_core.specs.declared.database.Value.{Value}
 use Rattle.lint_core.specs.declared.database.Value.TheVariants.{Null}
 use Rattle.lint_core.specs.Comparison.{compare, plus, is_null}
-use Rattle.lint_core.specs.Condition.{Inner, Meaning, BlockMeaning, at_entry, place_of, term_value, items_at, inner_bindings, selected, exists_truth, in_truth, scalar_value, cond_step, block_step, truth}
+use Rattle.lint_core.specs.Condition.{Inner, Meaning, BlockMeaning, place_of, term_value, items_at, inner_bindings, selected, exists_truth, in_truth, scalar_value, cond_step, block_step, truth}
+use Rattle.lint_core.specs.Fits.{at_entry}
 use Rattle.lint_core.specs.Database.{Place, rows_of, value_at, below, row_lists}
 use Rattle.lint_core.specs.Evaluation.{Evaluated, and_then, map_ok, all_ok}
 use Rattle.lint_core.specs.Fits.{tables_of}
 use Rattle.meaning_laws.specs.SameRows.{HaveEqualRows, named_step, block_named_step, tables_named, HaveSameTables}
 use Rattle.lint_core.specs.Truth.{truth_of, is_true, not_of, negated_if, and_of, or_of}
 use Rattle.lint_core.proofs.Conditions.{block_truth, layer_truth}
-use Rattle.lint_core.proofs.Levels.{length_inside, table_at_outer, table_at_own}
+use Rattle.lint_core.proofs.LevelTables.{length_inside, at_outer, at_own}
 use Rattle.lint_base.proofs.Lists.{every_at}
 use Rattle.meaning_laws.proofs.MeaningLaws.{map_ok_map_ok}
 
@@ -130,17 +131,17 @@ module _ (db other : Database) where
         let o : length others ≡ length tables = equal.other_levels in
         elim (cases_lt level (length tables)) [
           | inl low ↦
-              ap₂ (values_at db) (table_at_outer tables own level entry low) (table_at_outer binding rows level entry (omega arith))
+              ap₂ (values_at db) (at_outer tables own level entry low) (at_outer binding rows level entry (omega arith))
               ∙ (equal.equal level entry
-              ∙ sym (ap₂ (values_at other) (table_at_outer tables own level entry low) (table_at_outer others rows level entry (omega arith))))
+              ∙ sym (ap₂ (values_at other) (at_outer tables own level entry low) (at_outer others rows level entry (omega arith))))
           | inr high ↦
               elim (cases_lt (length tables) level) [
                 | inl far ↦ ap (λ t. values_at db t (at_entry (binding ++ rows ∷ []) level entry)) (past tables own level entry far)
                     ∙ sym (ap (λ t. values_at other t (at_entry (others ++ rows ∷ []) level entry)) (past tables own level entry far))
                 | inr near ↦
-                    ap₂ (values_at db) (table_at_own tables own level entry (omega arith)) (table_at_own binding rows level entry (omega arith))
+                    ap₂ (values_at db) (at_own tables own level entry (omega arith)) (at_own binding rows level entry (omega arith))
                     ∙ (own_same own rows same entry
-                    ∙ sym (ap₂ (values_at other) (table_at_own tables own level entry (omega arith)) (table_at_own others rows level entry (omega arith))))
+                    ∙ sym (ap₂ (values_at other) (at_own tables own level entry (omega arith)) (at_own others rows level entry (omega arith))))
               ]
         ];
   }

@@ -16,7 +16,7 @@ use Rattle.sort_formula.specs.declared.formula.Atom.TheVariants as atom
 use Rattle.sort_formula.specs.declared.formula.Formula.{Formula}
 use Rattle.sort_formula.specs.declared.formula.Formula.TheVariants as f
 use Rattle.sort_formula.specs.Negated.{negated}
-use Rattle.sort_formula.specs.Sides.{Scope}
+use Rattle.lint_core.specs.declared.scope.Scope.{Scope}
 use Rattle.sort_formula.specs.Translation.{is_false_formula}
 
 -- a sentence, and the foreign key that it states, if it states one

@@ -24,7 +24,8 @@ use Rattle.sort_formula.specs.declared.formula.Formula.{Formula}
 use Rattle.sort_formula.specs.declared.formula.Formula.TheVariants as f
 use Rattle.sort_formula.specs.Axioms.{le, equal_cells}
 use Rattle.sort_formula.specs.Negated.{negated}
-use Rattle.sort_formula.specs.Sides.{Scope, nothing, from_number, all_of, scope_of, numbered_from, side_of, is_text_term, is_null_formula, not_null_formula}
+use Rattle.lint_core.specs.declared.scope.Scope.{Scope}
+use Rattle.sort_formula.specs.Sides.{nothing, from_number, all_of, scope_of, numbered_from, side_of, is_text_term, is_null_formula, not_null_formula}
 use Rattle.sort_formula.specs.Translation.{is_true_formula, exist_rows}
 
 -- all levels but the last, and the last one

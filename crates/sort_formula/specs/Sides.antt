@@ -13,7 +13,8 @@ use Rattle.lint_tables.specs.Ways.{ways_of}
 use Rattle.lint_core.specs.declared.condition.Term.{Term}
 use Rattle.lint_core.specs.declared.condition.Term.TheVariants as term
 use Rattle.lint_core.specs.declared.schema.Table.{Table}
-use Rattle.lint_core.specs.Condition.{at_entry}
+use Rattle.lint_core.specs.declared.scope.Scope.{Scope}
+use Rattle.lint_core.specs.Fits.{at_entry}
 use Rattle.lint_core.specs.Database.{below}
 use Rattle.lint_core.specs.Fits.{term_kind}
 use Rattle.lint_core.specs.Kind.{is_text}
@@ -29,13 +30,6 @@ everything = f.And []
 
 abbrev pub nothing : Formula
 nothing = f.Or []
-
--- where a condition stands: the row variable and the table of each entry of each level, and how many quantifiers
--- are outside
-pub record Scope : Type 0 where
-  pub levels : List (List ℕ)
-  pub tables : List (List ℕ)
-  pub depth : ℕ
 
 -- so many variables from this number on
 abbrev pub from_number : ℕ → ℕ → List ℕ
@@ -100,7 +94,7 @@ module _ (schema : List Table) (scope : Scope) where
   is_null_term (term.Text text) = false
   is_null_term term.Null = true
 
-  -- that the comparison is true; that it is false is that of the negated operator
+  -- the formula that the comparison is true; for 'false', negate the operator first
   abbrev pub compare_formula : Op → Term → Term → Formula
   compare_formula op a b = if is_null_term a || is_null_term b then nothing else values_formula op a b
 

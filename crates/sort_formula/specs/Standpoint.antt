@@ -3,10 +3,11 @@
 use Rattle.std.specs.Prelude.{ℕ, suc, true, ◌≡◌, List, length, map, slice_get, option_and_then}
 use Rattle.lint_core.specs.declared.condition.Cond.{Cond}
 use Rattle.lint_core.specs.declared.database.Database.{Database}
-use Rattle.lint_core.specs.Condition.{at_entry, place_of}
+use Rattle.lint_core.specs.Condition.{place_of}
+use Rattle.lint_core.specs.Fits.{at_entry}
 use Rattle.lint_core.specs.Database.{Place}
 use Rattle.lint_core.specs.Naming.{names}
-use Rattle.sort_formula.specs.Sides.{Scope}
+use Rattle.lint_core.specs.declared.scope.Scope.{Scope}
 
 module _ (db : Database) (scope : Scope) (binding : List (List ℕ)) (rows : List Place) where
   -- the variable of the entry has the row of the entry

@@ -12,7 +12,8 @@ use Rattle.lint_core.specs.Fits.{tables_of}
 use Rattle.sort_formula.specs.declared.formula.Formula.{Formula}
 use Rattle.sort_formula.specs.declared.formula.Formula.TheVariants as f
 use Rattle.sort_formula.specs.Negated.{negated}
-use Rattle.sort_formula.specs.Sides.{Scope, from_number, everything, nothing, compare_formula, compare_false_formula, is_null_formula, not_null_formula}
+use Rattle.lint_core.specs.declared.scope.Scope.{Scope}
+use Rattle.sort_formula.specs.Sides.{from_number, everything, nothing, compare_formula, compare_false_formula, is_null_formula, not_null_formula}
 
 -- the formulas of a condition
 pub record Both : Type 0 where

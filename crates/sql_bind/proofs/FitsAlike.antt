@@ -10,7 +10,7 @@ use Rattle.lint_core.specs.declared.condition.Cond.TheOpen.{Cond-F}
 use Rattle.lint_core.specs.declared.condition.Block.{Block}
 use Rattle.lint_core.specs.declared.schema.Column.{Column}
 use Rattle.lint_core.specs.declared.schema.Table.{Table}
-use Rattle.lint_core.specs.Fits.{is_flat, cond_fits, cell_kind, term_kind, table_at}
+use Rattle.lint_core.specs.Fits.{is_flat, cond_fits, cell_kind, term_kind, at_entry}
 use Rattle.lint_core.specs.Kind.{column_kind, kind_of, with_added, compares_both}
 use Rattle.sql_bind.proofs.FitsFlat.{flat_roll}
 use Rattle.sql_bind.proofs.FitsForms.{of_cond, roll_fits}
@@ -31,7 +31,7 @@ module _ (schema other : List Table) (same : (number : ℕ) → columns_at schem
   cell_alike (Some number) column added = ap (option_and_then (with_added added)) (column_alike column (slice_get schema number) (slice_get other number) (same number))
 
   kind_alike : (tables : List (List ℕ)) (t : Term) → term_kind schema tables t ≡ term_kind other tables t
-  kind_alike tables (term.Cell level entry column added) = cell_alike (table_at tables level entry) column added
+  kind_alike tables (term.Cell level entry column added) = cell_alike (at_entry tables level entry) column added
   kind_alike tables (term.Number value unit) = refl
   kind_alike tables (term.Text text) = refl
   kind_alike tables term.Null = refl

@@ -12,7 +12,7 @@ use Rattle.lint_core.specs.declared.schema.Column.{Column}
 use Rattle.lint_core.specs.declared.schema.Domain.{Domain}
 use Rattle.lint_core.specs.declared.schema.Domain.TheVariants as domain
 use Rattle.lint_core.specs.declared.schema.Table.{Table}
-use Rattle.lint_core.specs.Fits.{table_at, tables_of, cell_kind, term_fits}
+use Rattle.lint_core.specs.Fits.{at_entry, tables_of, cell_kind, term_fits}
 use Rattle.lint_core.specs.Kind.{kind_of, with_added}
 use Rattle.sql_bind.specs.Bound.{Bound}
 use Rattle.sql_bind.specs.Names.{Level, seen_entries, level_tables, column_place, entry_place, columns_of, columns_at, Place, with_place, places_named, among, find_unqualified, in_entry, at_entry, find_qualified, find_column}
@@ -49,14 +49,14 @@ module _ (schema : List Table) where
       let size : length tables ≡ length outer = length-reverse (map (λ (l : Level). tables_of l.entries) outer) ∙ length-map outer (λ (l : Level). tables_of l.entries) in
       let here : slice_get (tables ++ tables_of level.entries ∷ []) (length outer) ≡ Some (tables_of level.entries) =
       ap (slice_get (tables ++ tables_of level.entries ∷ [])) (sym size) ∙ get-append_at tables (tables_of level.entries) [] in
-      let which : table_at (level_tables (level ∷ outer)) (length outer) entry ≡ Some e.table =
-      ap (λ all. table_at all (length outer) entry) (inner_level level outer) ∙ (ap (option_and_then (λ entries. slice_get entries entry)) here ∙ own) in
+      let which : at_entry (level_tables (level ∷ outer)) (length outer) entry ≡ Some e.table =
+      ap (λ all. at_entry all (length outer) entry) (inner_level level outer) ∙ (ap (option_and_then (λ entries. slice_get entries entry)) here ∙ own) in
       ap (λ o. is_some (cell_kind schema o column (pos 0))) which ∙ column_fits e column c (slice_get schema e.table) refl there
 
   -- what is there is there further inside
   table_further : (tables more : List (List ℕ)) (level entry : ℕ) (entries : Option (List ℕ)) → slice_get tables level ≡ entries →
       (column : ℕ) → is_some (cell_kind schema (option_and_then (λ es. slice_get es entry) entries) column (pos 0)) ≡ true →
-      is_some (cell_kind schema (table_at (tables ++ more) level entry) column (pos 0)) ≡ true
+      is_some (cell_kind schema (at_entry (tables ++ more) level entry) column (pos 0)) ≡ true
   table_further tables more level entry None at column fits = absurd (cc)
   table_further tables more level entry (Some entries) at column fits = rw (get-append_left tables more level entries at) fits
 
@@ -67,7 +67,7 @@ module _ (schema : List Table) where
     column = f.column;
     is = f.is;
     fits =
-        ap (λ all. is_some (cell_kind schema (table_at all f.level f.entry) f.column (pos 0))) (inner_level level outer)
+        ap (λ all. is_some (cell_kind schema (at_entry all f.level f.entry) f.column (pos 0))) (inner_level level outer)
         ∙ table_further (level_tables outer) (tables_of level.entries ∷ []) f.level f.entry (slice_get (level_tables outer) f.level) refl f.column f.fits;
   }
 

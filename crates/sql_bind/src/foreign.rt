@@ -82,19 +82,10 @@ fn target_columns(
     }
 }
 
-fn are_of_one_kind(one: Option<Kind>, other: Option<Kind>) -> bool
-    ensures { result ≡ are_of_one_kind one other }
-{
-    match (one, other) {
-        (Some(one), Some(other)) => one.goes_with(other),
-        _ => false,
-    }
-}
-
 fn pairs_go_together(table: &Table, target: &Table, columns: &[u32], others: &[u32]) -> bool
     ensures { result ≡ list_all (λ pair. are_of_one_kind (column_kind table.now pair.0) (column_kind target.now pair.1)) (zip columns.now others.now) }
 {
-    columns.iter().zip(others).all(|(c, o)| are_of_one_kind(
+    columns.iter().zip(others).all(|(c, o)| Kind::are_of_one_kind(
         table.column_kind(*c),
         target.column_kind(*o),
     ))

@@ -1,6 +1,6 @@
 //! The FROM lists that a name is looked for in.
-ghost use Rattle.std.specs.Prelude.{◌≡◌, ◌∷◌, ◌<◌, ◌+◌, ◌-◌, IfOk, IfErr, length, take, drop, slice_get};
-ghost use Rattle.lint_core.specs.Fits.{tables_of, table_at};
+ghost use Rattle.std.specs.Prelude.{◌≡◌, ◌∷◌, ◌<◌, ◌+◌, ◌-◌, IfOk, IfErr, length, take, drop};
+ghost use Rattle.lint_core.specs.Fits.{tables_of, at_entry};
 ghost use Rattle.sql_bind.specs.Names.{level_tables, whole_level};
 ghost use Rattle.sql_bind.specs.Levels.{levels_seen};
 
@@ -31,15 +31,6 @@ pub(crate) fn seen(entries: &[Entry], first: usize, end: usize) -> &[Entry]
     &rest[..count]
 }
 
-fn table_of(entries: &[Entry], entry: u32) -> Option<u32>
-    ensures { result ≡ slice_get (tables_of entries.now) entry }
-{
-    match entries.get(entry as usize) {
-        Some(found) => Some(found.table),
-        None => None,
-    }
-}
-
 impl<'a> Levels<'a> {
     /// A FROM list, all of whose entries are seen, inside others.
     pub(crate) fn whole(entries: &'a [Entry], outer: &'a Levels<'a>) -> Levels<'a>
@@ -68,14 +59,14 @@ impl Levels<'_> {
     /// The table of an entry of a level, if that level has it; where there is no such level, how many
     /// levels further in it would be.
     fn look_up(&self, level: u32, entry: u32) -> Result<Option<u32>, u32>
-        ensures there { IfOk result (λ found. (level < length (level_tables (levels_seen self.now))) × (found ≡ table_at (level_tables (levels_seen self.now)) level entry)) }
+        ensures there { IfOk result (λ found. (level < length (level_tables (levels_seen self.now))) × (found ≡ at_entry (level_tables (levels_seen self.now)) level entry)) }
         ensures further { IfErr result (λ more. more + length (level_tables (levels_seen self.now)) ≡ level) }
     {
         match self {
             Levels::Outside => Err(level),
             Levels::Inside { entries, outer, .. } => match outer.look_up(level, entry) {
                 Ok(found) => Ok(found),
-                Err(0) => Ok(table_of(entries, entry)),
+                Err(0) => Ok(Entry::table_of(entries, entry)),
                 Err(further) => Err(further - 1),
             },
         }
@@ -83,7 +74,7 @@ impl Levels<'_> {
 
     /// The table of an entry of a level.
     pub(crate) fn table_at(&self, level: u32, entry: u32) -> Option<u32>
-        ensures { result ≡ table_at (level_tables (levels_seen self.now)) level entry }
+        ensures { result ≡ at_entry (level_tables (levels_seen self.now)) level entry }
     {
         match self.look_up(level, entry) {
             Ok(found) => found,

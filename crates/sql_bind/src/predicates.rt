@@ -14,9 +14,9 @@ ghost use Rattle.sql_bind.specs.Levels.{levels_seen};
 use crate::bound::refused;
 use crate::levels::Levels;
 use crate::selects::BoundSelect;
-use crate::terms::{bind_term, both_compare, compares, kind};
+use crate::terms::{bind_term, compares, kind};
 use lint_base::{Fault, Items, NoMemory, Span, TextStop};
-use lint_core::{Cond, Table, Term};
+use lint_core::{Cond, Kind, Table, Term};
 use lint_tables::Op;
 use sql_tree::TermTree;
 use std::alloc::Global;
@@ -300,5 +300,5 @@ pub(crate) fn compares_selected(
     ensures { result ≡ compares_selected tables.now (levels_seen levels.now) op left.now select.now item.now }
 {
     let inner = Levels::whole(select.block.entries.as_slice(), &*levels);
-    both_compare(op, kind(tables, levels, left), kind(tables, &inner, item))
+    Kind::both_compare(op, kind(tables, levels, left), kind(tables, &inner, item))
 }

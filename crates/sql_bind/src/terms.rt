@@ -2,8 +2,7 @@
 ghost use Rattle.std.specs.Prelude.{◌≡◌, ◌+◌, IfOk, length};
 ghost use Rattle.std.specs.Str.{bytes_eq};
 ghost use Rattle.sql_bind.specs.Bound.{Gives};
-ghost use Rattle.lint_core.specs.Fits.{cell_kind, term_kind, term_fits};
-ghost use Rattle.lint_core.specs.Kind.{compares_both};
+ghost use Rattle.lint_core.specs.Fits.{term_kind, term_fits};
 ghost use Rattle.sql_bind.specs.Names.{table_place, column_place, entry_place, columns_of, columns_at, places_named, find_unqualified, find_qualified, in_entry, find_column, level_tables};
 ghost use Rattle.sql_bind.specs.Terms as terms;
 ghost use Rattle.sql_bind.specs.Found.{found_among, found_with};
@@ -271,15 +270,6 @@ pub(crate) fn bind_term(
     }
 }
 
-fn cell_kind(tables: &[Table], table: Option<u32>, column: u32, plus: i64) -> Option<Kind>
-    ensures { result ≡ cell_kind tables.now table column plus }
-{
-    tables
-        .get(table? as usize)?
-        .column_kind(column)?
-        .with_added(plus)
-}
-
 /// What a term is, if it names an existing column and adds nothing to a text.
 pub(crate) fn kind(tables: &[Table], levels: &Levels, term: &Term) -> Option<Kind>
     ensures { result ≡ term_kind tables.now (level_tables (levels_seen levels.now)) term.now }
@@ -290,20 +280,10 @@ pub(crate) fn kind(tables: &[Table], levels: &Levels, term: &Term) -> Option<Kin
             entry,
             column,
             plus,
-        } => cell_kind(tables, levels.table_at(*level, *entry), *column, *plus),
+        } => Kind::of_cell(tables, levels.table_at(*level, *entry), *column, *plus),
         Term::Number { unit, .. } => Some(Kind::Number(*unit)),
         Term::Text(_) => Some(Kind::Text),
         Term::Null => Some(Kind::Null),
-    }
-}
-
-/// Whether an operator compares what is of two kinds.
-pub(crate) fn both_compare(op: Op, left: Option<Kind>, right: Option<Kind>) -> bool
-    ensures { result ≡ compares_both op left right }
-{
-    match (left, right) {
-        (Some(left), Some(right)) => left.compares(op, right),
-        _ => false,
     }
 }
 
@@ -311,5 +291,5 @@ pub(crate) fn both_compare(op: Op, left: Option<Kind>, right: Option<Kind>) -> b
 pub(crate) fn compares(tables: &[Table], levels: &Levels, op: Op, left: &Term, right: &Term) -> bool
     ensures { result ≡ terms.compares tables.now (levels_seen levels.now) op left.now right.now }
 {
-    both_compare(op, kind(tables, levels, left), kind(tables, levels, right))
+    Kind::both_compare(op, kind(tables, levels, left), kind(tables, levels, right))
 }

@@ -1,11 +1,11 @@
 //! The levels that a condition stands in, linked from the inside out.
 ghost use Rattle.std.specs.Prelude.{◌≡◌, ◌<◌, ◌+◌, length, IfOk, IfErr, slice_get};
-ghost use Rattle.lint_core.specs.Condition.{at_entry};
+ghost use Rattle.lint_core.specs.Fits.{at_entry};
 ghost use Rattle.lint_core.specs.Fits.{tables_of};
 ghost use Rattle.sql_meaning.specs.Standing.{tables_of_levels, binding_of_levels};
 
 use lint_base::Items;
-use lint_core::Entry;
+use lint_core::{Entry, number_at};
 
 /// The FROM lists of some levels, with a row place for each entry.
 #[derive(Drop)]
@@ -23,19 +23,7 @@ pub(crate) enum Levels<'a> {
     },
 }
 
-/// The number of an entry of a level, if the level has it; where there is no such level, how many levels
-/// further in it would be.
-fn number_at(levels: &[Items<u32>], level: u32, entry: u32) -> Result<Option<u32>, usize>
-    ensures there { IfOk result (λ found. (level < length levels.now) × (found ≡ at_entry levels.now level entry)) }
-    ensures further { IfErr result (λ more. more + length levels.now ≡ level) }
-{
-    match levels.get(level as usize) {
-        Some(entries) => Ok(entries.as_slice().get(entry as usize).copied()),
-        None => Err(level as usize - levels.len()),
-    }
-}
-
-/// The same, of row places.
+/// The row place of an entry of a level, as `number_at`.
 fn row_in(levels: &[Items<u32>], level: u32, entry: u32) -> Result<Option<usize>, usize>
     ensures there { IfOk result (λ found. (level < length levels.now) × (found ≡ at_entry levels.now level entry)) }
     ensures further { IfErr result (λ more. more + length levels.now ≡ level) }
@@ -44,15 +32,6 @@ fn row_in(levels: &[Items<u32>], level: u32, entry: u32) -> Result<Option<usize>
         Ok(Some(row)) => Ok(Some(row as usize)),
         Ok(None) => Ok(None),
         Err(further) => Err(further),
-    }
-}
-
-fn table_of(entries: &[Entry], entry: u32) -> Option<u32>
-    ensures { result ≡ slice_get (tables_of entries.now) entry }
-{
-    match entries.get(entry as usize) {
-        Some(found) => Some(found.table),
-        None => None,
     }
 }
 
@@ -74,7 +53,7 @@ impl Levels<'_> {
             Levels::Given { tables, .. } => number_at(tables, level, entry),
             Levels::Inside { entries, outer, .. } => match outer.look_up_table(level, entry) {
                 Ok(found) => Ok(found),
-                Err(0) => Ok(table_of(entries, entry)),
+                Err(0) => Ok(Entry::table_of(entries, entry)),
                 Err(further) => Err(further - 1),
             },
         }

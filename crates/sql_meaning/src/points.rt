@@ -1,6 +1,6 @@
 //! The points at which a question may fail.
 ghost use Rattle.std.specs.Prelude.{◌≡◌, ◌∷◌, [], take, drop, remove, unwrap_or, IfOk};
-ghost use Rattle.lint_core.specs.Condition.{at_entry};
+ghost use Rattle.lint_core.specs.Fits.{at_entry};
 ghost use Rattle.lint_core.specs.Points.{are_rows, is_binding, are_same_rows, is_same_binding, differ_in_last_level, main_rows, differ_in_entry, with_row, is_same_row};
 
 use crate::evaluation::row_count;

@@ -1,3 +1,3 @@
-pub mod Standing
+pub mod Variables
 pub mod Nearness
 pub mod Translated

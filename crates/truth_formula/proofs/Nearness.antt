@@ -17,7 +17,7 @@ use Rattle.sort_formula.specs.declared.formula.Formula.TheVariants as f
 use Rattle.sort_formula.specs.declared.formula.Formula.TheOpen.{Formula-F}
 use Rattle.sort_formula.specs.Negated.{negated, negated_atom, null_of, fails}
 use Rattle.sort_formula.specs.Bounds.{is_within, within_step, atom_is_within}
-use Rattle.truth_formula.specs.HalfOpen.{is_near, is_near_atom, half_open_step, is_half_open}
+use Rattle.truth_formula.specs.inner.HalfOpen.{is_near, is_near_atom, half_open_step, is_half_open}
 
 at_least : (least most : ℤ) → least ≤ℤ most → int_le least most ≡ true
 at_least least most low = grind (arith, ints)

@@ -9,10 +9,10 @@ use Rattle.lint_core.specs.declared.condition.Cond.TheVariants as c
 use Rattle.lint_core.specs.declared.condition.Cond.TheOpen.{Cond-F}
 use Rattle.lint_core.specs.declared.schema.Table.{Table}
 use Rattle.sort_formula.specs.declared.formula.Formula.TheVariants as f
-use Rattle.sort_formula.specs.Sides.{Scope}
+use Rattle.lint_core.specs.declared.scope.Scope.{Scope}
 use Rattle.sort_formula.specs.Translation as translation
 use Rattle.sort_formula.specs.Translation.{Both, Meaning, BlockMeaning, translation}
-use Rattle.truth_formula.specs.Parts.{chosen, joined, block_translation, count_block}
+use Rattle.truth_formula.specs.inner.Parts.{chosen, joined, block_translation, count_block}
 use Rattle.truth_formula.specs.Scopes.{entries_step, block_step, count_entries}
 
 module _ (schema : List Table) where

@@ -1,4 +1,2 @@
 pub mod Scopes
-pub mod Levels
-pub mod HalfOpen
-pub mod Parts
+pub mod inner

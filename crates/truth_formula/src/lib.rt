@@ -8,10 +8,9 @@
 //! can say when memory ends: the cases of `worked_cases` show that both formulas are made.
 #![tactic(auto)]
 
-mod levels;
-mod scope;
 mod sides;
+mod standing;
 mod translation;
 
-pub use scope::Scope;
+pub use lint_core::Scope;
 pub use translation::{is_false, is_true};

@@ -1,22 +1,26 @@
 //! Comparisons and IS NULL as formulas.
 ghost use Rattle.std.specs.Prelude.{◌≡◌, ◌<◌, ◌^◌, pos, ◌-ℤ◌, true, if◌then◌else◌, IfOk};
-ghost use Rattle.lint_core.specs.Fits.{cell_kind};
 ghost use Rattle.sort_formula.specs.Sides.{added_to, compare_formula, everything, is_null_formula, is_null_term, is_text_term, not_null_formula, nothing, side_of, texts_formula, values_formula, way_formula, ways_formula};
 ghost use Rattle.sort_formula.specs.declared.formula.Atom.TheVariants as atom;
 ghost use Rattle.sort_formula.specs.declared.formula.Formula.TheVariants as f;
-ghost use Rattle.truth_formula.specs.HalfOpen.{is_half_open, is_near};
-ghost use Rattle.truth_formula.specs.Levels.{scope_of};
+ghost use Rattle.truth_formula.specs.inner.HalfOpen.{is_half_open, is_near};
+ghost use Rattle.truth_formula.specs.inner.Standing.{scope_of};
 
-use crate::levels::Levels;
+use crate::standing::Standing;
 use lint_base::{Items, NoMemory};
 use lint_core::{Kind, Table, Term};
 use lint_tables::{Op, Way, Ways};
 use sort_formula::{Atom, Formula, Side};
 use std::alloc::Global;
 
-fn side_of(alloc: Global, tables: &[Table], levels: &Levels, term: &Term) -> Result<Side, NoMemory>
-    requires { (scope_of levels.now).depth < 2 ^ 32 }
-    ensures { IfOk result (λ s. s ≡ side_of tables.now (scope_of levels.now) term.now) }
+fn side_of(
+    alloc: Global,
+    tables: &[Table],
+    standing: &Standing,
+    term: &Term,
+) -> Result<Side, NoMemory>
+    requires { (scope_of standing.now).depth < 2 ^ 32 }
+    ensures { IfOk result (λ s. s ≡ side_of tables.now (scope_of standing.now) term.now) }
 {
     match term {
         Term::Cell {
@@ -25,7 +29,7 @@ fn side_of(alloc: Global, tables: &[Table], levels: &Levels, term: &Term) -> Res
             column,
             ..
         } => Ok(Side::Cell {
-            row: levels.variable_at(*level, *entry),
+            row: standing.variable_at(*level, *entry),
             column: *column,
         }),
         Term::Number { .. } | Term::Null => Ok(Side::Zero),
@@ -33,8 +37,8 @@ fn side_of(alloc: Global, tables: &[Table], levels: &Levels, term: &Term) -> Res
     }
 }
 
-fn added_to(tables: &[Table], levels: &Levels, term: &Term) -> i64
-    ensures { result ≡ added_to tables.now (scope_of levels.now) term.now }
+fn added_to(tables: &[Table], standing: &Standing, term: &Term) -> i64
+    ensures { result ≡ added_to tables.now (scope_of standing.now) term.now }
 {
     match term {
         Term::Cell { plus, .. } => *plus,
@@ -43,31 +47,10 @@ fn added_to(tables: &[Table], levels: &Levels, term: &Term) -> i64
     }
 }
 
-fn cell_kind(tables: &[Table], table: Option<u32>, column: u32, plus: i64) -> Option<Kind>
-    ensures { result ≡ cell_kind tables.now table column plus }
+fn is_text(tables: &[Table], standing: &Standing, term: &Term) -> bool
+    ensures { result ≡ is_text_term tables.now (scope_of standing.now) term.now }
 {
-    tables
-        .get(table? as usize)?
-        .column_kind(column)?
-        .with_added(plus)
-}
-
-fn is_text(tables: &[Table], levels: &Levels, term: &Term) -> bool
-    ensures { result ≡ is_text_term tables.now (scope_of levels.now) term.now }
-{
-    match term {
-        Term::Cell {
-            level,
-            entry,
-            column,
-            plus,
-        } => {
-            let table = levels.table_at(*level, *entry);
-            cell_kind(tables, table, *column, *plus) == Some(Kind::Text)
-        }
-        Term::Text(_) => true,
-        Term::Number { .. } | Term::Null => false,
-    }
+    matches!(term.kind(tables, &standing.tables), Some(Kind::Text))
 }
 
 fn difference(greater: i64, lesser: i64, less: u8) -> i128
@@ -81,20 +64,20 @@ fn difference(greater: i64, lesser: i64, less: u8) -> i128
 fn bound(
     alloc: Global,
     tables: &[Table],
-    levels: &Levels,
+    standing: &Standing,
     lesser: &Term,
     greater: &Term,
     less: u8,
 ) -> Result<Formula, NoMemory>
-    requires { (scope_of levels.now).depth < 2 ^ 32 }
-    ensures formula { IfOk result (λ made. made ≡ f.Atom (atom.Le (side_of tables.now (scope_of levels.now) lesser.now) (side_of tables.now (scope_of levels.now) greater.now) (added_to tables.now (scope_of levels.now) greater.now -ℤ added_to tables.now (scope_of levels.now) lesser.now -ℤ pos less))) }
+    requires { (scope_of standing.now).depth < 2 ^ 32 }
+    ensures formula { IfOk result (λ made. made ≡ f.Atom (atom.Le (side_of tables.now (scope_of standing.now) lesser.now) (side_of tables.now (scope_of standing.now) greater.now) (added_to tables.now (scope_of standing.now) greater.now -ℤ added_to tables.now (scope_of standing.now) lesser.now -ℤ pos less))) }
     ensures bounds { IfOk result (λ f. is_half_open f ≡ true) }
 {
-    let left = side_of(alloc, tables, levels, lesser)?;
-    let right = side_of(alloc, tables, levels, greater)?;
+    let left = side_of(alloc, tables, standing, lesser)?;
+    let right = side_of(alloc, tables, standing, greater)?;
     let most = difference(
-        added_to(tables, levels, greater),
-        added_to(tables, levels, lesser),
+        added_to(tables, standing, greater),
+        added_to(tables, standing, lesser),
         less,
     );
     Ok(Formula::Atom(Atom::Le { left, right, most }))
@@ -103,41 +86,41 @@ fn bound(
 fn way(
     alloc: Global,
     tables: &[Table],
-    levels: &Levels,
+    standing: &Standing,
     left: &Term,
     right: &Term,
     way: Way,
 ) -> Result<Formula, NoMemory>
-    requires { (scope_of levels.now).depth < 2 ^ 32 }
-    ensures formula { IfOk result (λ f. f ≡ way_formula tables.now (scope_of levels.now) left.now right.now way) }
+    requires { (scope_of standing.now).depth < 2 ^ 32 }
+    ensures formula { IfOk result (λ f. f ≡ way_formula tables.now (scope_of standing.now) left.now right.now way) }
     ensures bounds { IfOk result (λ f. is_half_open f ≡ true) }
 {
     if way.swapped {
-        bound(alloc, tables, levels, right, left, way.less)
+        bound(alloc, tables, standing, right, left, way.less)
     } else {
-        bound(alloc, tables, levels, left, right, way.less)
+        bound(alloc, tables, standing, left, right, way.less)
     }
 }
 
 fn ways(
     alloc: Global,
     tables: &[Table],
-    levels: &Levels,
+    standing: &Standing,
     left: &Term,
     right: &Term,
     ways: Ways,
 ) -> Result<Formula, NoMemory>
-    requires { (scope_of levels.now).depth < 2 ^ 32 }
-    ensures formula { IfOk result (λ f. f ≡ ways_formula tables.now (scope_of levels.now) left.now right.now ways) }
+    requires { (scope_of standing.now).depth < 2 ^ 32 }
+    ensures formula { IfOk result (λ f. f ≡ ways_formula tables.now (scope_of standing.now) left.now right.now ways) }
     ensures bounds { IfOk result (λ f. is_half_open f ≡ true) }
 {
-    let one = way(alloc, tables, levels, left, right, ways.one)?;
+    let one = way(alloc, tables, standing, left, right, ways.one)?;
     let Some(two) = ways.two else {
         return Ok(one);
     };
     let mut parts = Items::new(alloc);
     parts.push(one)?;
-    parts.push(way(alloc, tables, levels, left, right, two)?)?;
+    parts.push(way(alloc, tables, standing, left, right, two)?)?;
     if ways.all {
         Ok(Formula::And(parts))
     } else {
@@ -149,17 +132,17 @@ fn ways(
 fn texts(
     alloc: Global,
     tables: &[Table],
-    levels: &Levels,
+    standing: &Standing,
     op: Op,
     left: &Term,
     right: &Term,
 ) -> Result<Formula, NoMemory>
-    requires { (scope_of levels.now).depth < 2 ^ 32 }
-    ensures formula { IfOk result (λ f. f ≡ texts_formula tables.now (scope_of levels.now) op (side_of tables.now (scope_of levels.now) left.now) (side_of tables.now (scope_of levels.now) right.now)) }
+    requires { (scope_of standing.now).depth < 2 ^ 32 }
+    ensures formula { IfOk result (λ f. f ≡ texts_formula tables.now (scope_of standing.now) op (side_of tables.now (scope_of standing.now) left.now) (side_of tables.now (scope_of standing.now) right.now)) }
     ensures bounds { IfOk result (λ f. is_half_open f ≡ true) }
 {
-    let left = side_of(alloc, tables, levels, left)?;
-    let right = side_of(alloc, tables, levels, right)?;
+    let left = side_of(alloc, tables, standing, left)?;
+    let right = side_of(alloc, tables, standing, right)?;
     match op {
         Op::Eq => Ok(Formula::Atom(Atom::TextEq { left, right })),
         Op::Ne => Ok(Formula::Atom(Atom::TextNe { left, right })),
@@ -171,21 +154,21 @@ fn texts(
 pub(crate) fn comparison(
     alloc: Global,
     tables: &[Table],
-    levels: &Levels,
+    standing: &Standing,
     op: Op,
     left: &Term,
     right: &Term,
 ) -> Result<Formula, NoMemory>
-    requires { (scope_of levels.now).depth < 2 ^ 32 }
-    ensures formula { IfOk result (λ f. f ≡ compare_formula tables.now (scope_of levels.now) op left.now right.now) }
+    requires { (scope_of standing.now).depth < 2 ^ 32 }
+    ensures formula { IfOk result (λ f. f ≡ compare_formula tables.now (scope_of standing.now) op left.now right.now) }
     ensures bounds { IfOk result (λ f. is_half_open f ≡ true) }
 {
     if matches!(left, Term::Null) || matches!(right, Term::Null) {
         Ok(constant(alloc, false))
-    } else if is_text(tables, levels, left) || is_text(tables, levels, right) {
-        texts(alloc, tables, levels, op, left, right)
+    } else if is_text(tables, standing, left) || is_text(tables, standing, right) {
+        texts(alloc, tables, standing, op, left, right)
     } else {
-        ways(alloc, tables, levels, left, right, op.ways())
+        ways(alloc, tables, standing, left, right, op.ways())
     }
 }
 
@@ -193,12 +176,12 @@ pub(crate) fn comparison(
 pub(crate) fn null_test(
     alloc: Global,
     tables: &[Table],
-    levels: &Levels,
+    standing: &Standing,
     term: &Term,
     null: bool,
 ) -> Formula
-    requires { (scope_of levels.now).depth < 2 ^ 32 }
-    ensures formula { result ≡ (if null then is_null_formula tables.now (scope_of levels.now) term.now else not_null_formula tables.now (scope_of levels.now) term.now) }
+    requires { (scope_of standing.now).depth < 2 ^ 32 }
+    ensures formula { result ≡ (if null then is_null_formula tables.now (scope_of standing.now) term.now else not_null_formula tables.now (scope_of standing.now) term.now) }
     ensures bounds { is_half_open result ≡ true }
 {
     let Term::Cell {
@@ -210,7 +193,7 @@ pub(crate) fn null_test(
     else {
         return constant(alloc, matches!(term, Term::Null) == null);
     };
-    let row = levels.variable_at(*level, *entry);
+    let row = standing.variable_at(*level, *entry);
     let column = *column;
     Formula::Atom(if null {
         Atom::IsNull { row, column }

@@ -6,16 +6,15 @@ ghost use Rattle.lint_tables.specs.Operators.{negation};
 ghost use Rattle.sort_formula.specs.Negated.{negated};
 ghost use Rattle.sort_formula.specs.Translation.{exists_both, is_false_formula, is_true_formula, translation};
 ghost use Rattle.sort_formula.specs.Bounds.{is_within};
-ghost use Rattle.truth_formula.specs.HalfOpen.{is_half_open};
-ghost use Rattle.truth_formula.specs.Levels.{scope_of};
-ghost use Rattle.truth_formula.specs.Parts.{block_translation, chosen, count_block, every_row, joined, quantified, some_row};
-ghost use Rattle.truth_formula.specs.Scopes.{CanStand, count_entries, standing};
+ghost use Rattle.truth_formula.specs.inner.HalfOpen.{is_half_open};
+ghost use Rattle.truth_formula.specs.inner.Standing.{scope_of};
+ghost use Rattle.truth_formula.specs.inner.Parts.{block_translation, chosen, count_block, every_row, joined, quantified, some_row};
+ghost use Rattle.truth_formula.specs.Scopes.{CanStand, count_entries};
 
-use crate::levels::Levels;
-use crate::scope::Scope;
 use crate::sides::{comparison, constant, null_test};
+use crate::standing::Standing;
 use lint_base::{Items, NoMemory};
-use lint_core::{Block, Cond, Entry, Schema, Table, Term};
+use lint_core::{Block, Cond, Entry, Schema, Scope, Table, Term};
 use lint_tables::Op;
 use sort_formula::{Formula, negate};
 use sqlite_items::Boxed;
@@ -69,7 +68,7 @@ fn quantified(
     })
 }
 
-/// The negation. Its bounds are as near.
+/// The negation. Its bounds stay in the same interval.
 #[tactic(auto, using(crate::proofs::Nearness::not_near))]
 fn negated(alloc: Global, formula: &Formula) -> Result<Formula, NoMemory>
     requires { is_half_open formula.now ≡ true }
@@ -86,24 +85,21 @@ fn op_if(op: Op, holds: bool) -> Op
     if holds { op } else { op.negated() }
 }
 
-/// Some row of the subquery's is there, or none.
+/// Some row satisfies the subquery's condition (`holds`), or no row does.
 #[cycle(translate)]
 fn exists(
     alloc: Global,
     tables: &[Table],
-    levels: &Levels,
+    standing: &Standing,
     block: &Block,
     holds: bool,
 ) -> Result<Formula, NoMemory>
-    requires { (scope_of levels.now).depth + count_block block.now < 2 ^ 32 }
-    ensures formula { IfOk result (λ made. made ≡ chosen holds (exists_both tables.now (block_translation tables.now block.now) (scope_of levels.now))) }
+    requires { (scope_of standing.now).depth + count_block block.now < 2 ^ 32 }
+    ensures formula { IfOk result (λ made. made ≡ chosen holds (exists_both tables.now (block_translation tables.now block.now) (scope_of standing.now))) }
     ensures bounds { IfOk result (λ made. is_half_open made ≡ true) }
 {
     let entries = block.entries.as_slice();
-    let inside = Levels::Inside {
-        entries,
-        outer: &*levels,
-    };
+    let inside = (&*standing).inside(entries);
     let mut body = translate(alloc, tables, &inside, &block.cond, true)?;
     if !holds {
         body = negated(alloc, &body)?;
@@ -116,46 +112,40 @@ fn exists(
 fn some_row(
     alloc: Global,
     tables: &[Table],
-    levels: &Levels,
+    standing: &Standing,
     op: Op,
     left: &Term,
     block: &Block,
     item: &Term,
 ) -> Result<Formula, NoMemory>
-    requires { (scope_of levels.now).depth + count_block block.now < 2 ^ 32 }
-    ensures formula { IfOk result (λ made. made ≡ some_row tables.now (scope_of levels.now) op left.now (block_translation tables.now block.now) item.now) }
+    requires { (scope_of standing.now).depth + count_block block.now < 2 ^ 32 }
+    ensures formula { IfOk result (λ made. made ≡ some_row tables.now (scope_of standing.now) op left.now (block_translation tables.now block.now) item.now) }
     ensures bounds { IfOk result (λ made. is_half_open made ≡ true) }
 {
     let entries = block.entries.as_slice();
-    let inside = Levels::Inside {
-        entries,
-        outer: &*levels,
-    };
+    let inside = (&*standing).inside(entries);
     let chosen = translate(alloc, tables, &inside, &block.cond, true)?;
     let compared = comparison(alloc, tables, &inside, op, left, item)?;
     quantified(alloc, entries, two(alloc, chosen, compared, true)?, true)
 }
 
-/// Each row is none of the subquery's or compares so.
+/// Every row either fails the subquery's condition or satisfies the comparison.
 #[cycle(translate)]
 fn every_row(
     alloc: Global,
     tables: &[Table],
-    levels: &Levels,
+    standing: &Standing,
     op: Op,
     left: &Term,
     block: &Block,
     item: &Term,
 ) -> Result<Formula, NoMemory>
-    requires { (scope_of levels.now).depth + count_block block.now < 2 ^ 32 }
-    ensures formula { IfOk result (λ made. made ≡ every_row tables.now (scope_of levels.now) op left.now (block_translation tables.now block.now) item.now) }
+    requires { (scope_of standing.now).depth + count_block block.now < 2 ^ 32 }
+    ensures formula { IfOk result (λ made. made ≡ every_row tables.now (scope_of standing.now) op left.now (block_translation tables.now block.now) item.now) }
     ensures bounds { IfOk result (λ made. is_half_open made ≡ true) }
 {
     let entries = block.entries.as_slice();
-    let inside = Levels::Inside {
-        entries,
-        outer: &*levels,
-    };
+    let inside = (&*standing).inside(entries);
     let chosen = translate(alloc, tables, &inside, &block.cond, true)?;
     let none = negated(alloc, &chosen)?;
     let compared = comparison(alloc, tables, &inside, op, left, item)?;
@@ -166,17 +156,17 @@ fn every_row(
 fn translate_parts(
     alloc: Global,
     tables: &[Table],
-    levels: &Levels,
+    standing: &Standing,
     parts: &[Cond],
     holds: bool,
 ) -> Result<Items<Formula>, NoMemory>
-    requires { (scope_of levels.now).depth + sum_by count_entries parts.now < 2 ^ 32 }
-    ensures formulas { IfOk result (λ made. made ≡ map (λ part. chosen holds (translation tables.now part (scope_of levels.now))) parts.now) }
+    requires { (scope_of standing.now).depth + sum_by count_entries parts.now < 2 ^ 32 }
+    ensures formulas { IfOk result (λ made. made ≡ map (λ part. chosen holds (translation tables.now part (scope_of standing.now))) parts.now) }
     ensures bounds { IfOk result (λ made. list_all is_half_open made ≡ true) }
 {
     let mut formulas = Items::new(alloc);
     for part in parts {
-        formulas.push(translate(alloc, tables, levels, part, holds)?)?;
+        formulas.push(translate(alloc, tables, standing, part, holds)?)?;
     }
     Ok(formulas)
 }
@@ -186,36 +176,36 @@ fn translate_parts(
 fn translate(
     alloc: Global,
     tables: &[Table],
-    levels: &Levels,
+    standing: &Standing,
     cond: &Cond,
     holds: bool,
 ) -> Result<Formula, NoMemory>
-    requires { (scope_of levels.now).depth + count_entries cond.now < 2 ^ 32 }
-    ensures formula { IfOk result (λ made. made ≡ chosen holds (translation tables.now cond.now (scope_of levels.now))) }
+    requires { (scope_of standing.now).depth + count_entries cond.now < 2 ^ 32 }
+    ensures formula { IfOk result (λ made. made ≡ chosen holds (translation tables.now cond.now (scope_of standing.now))) }
     ensures bounds { IfOk result (λ made. is_half_open made ≡ true) }
 {
     match cond {
         Cond::True => Ok(constant(alloc, holds)),
         Cond::False => Ok(constant(alloc, !holds)),
         Cond::And(parts) => {
-            let parts = translate_parts(alloc, tables, levels, parts.as_slice(), holds)?;
+            let parts = translate_parts(alloc, tables, standing, parts.as_slice(), holds)?;
             Ok(joined(parts, holds))
         }
         Cond::Or(parts) => {
-            let parts = translate_parts(alloc, tables, levels, parts.as_slice(), holds)?;
+            let parts = translate_parts(alloc, tables, standing, parts.as_slice(), holds)?;
             Ok(joined(parts, !holds))
         }
-        Cond::Not(part) => translate(alloc, tables, levels, part.get(), !holds),
+        Cond::Not(part) => translate(alloc, tables, standing, part.get(), !holds),
         Cond::Compare {
             op,
             left,
             right,
             ..
-        } => comparison(alloc, tables, levels, op_if(*op, holds), left, right),
+        } => comparison(alloc, tables, standing, op_if(*op, holds), left, right),
         Cond::IsNull { term, negated, .. } => {
-            Ok(null_test(alloc, tables, levels, term, holds != *negated))
+            Ok(null_test(alloc, tables, standing, term, holds != *negated))
         }
-        Cond::Exists { block, .. } => exists(alloc, tables, levels, block.get(), holds),
+        Cond::Exists { block, .. } => exists(alloc, tables, standing, block.get(), holds),
         Cond::In {
             term,
             block,
@@ -224,9 +214,9 @@ fn translate(
             ..
         } => {
             if holds != *negated {
-                some_row(alloc, tables, levels, Op::Eq, term, block.get(), item)
+                some_row(alloc, tables, standing, Op::Eq, term, block.get(), item)
             } else {
-                every_row(alloc, tables, levels, Op::Ne, term, block.get(), item)
+                every_row(alloc, tables, standing, Op::Ne, term, block.get(), item)
             }
         }
         Cond::Scalar {
@@ -238,7 +228,7 @@ fn translate(
         } => some_row(
             alloc,
             tables,
-            levels,
+            standing,
             op_if(*op, holds),
             left,
             block.get(),
@@ -257,11 +247,11 @@ pub fn is_true(
     scope: &Scope,
 ) -> Result<Formula, NoMemory>
     requires { CanStand schema.now cond.now scope.now }
-    ensures formula { IfOk result (λ f. f ≡ is_true_formula schema.now cond.now (standing scope.now)) }
+    ensures formula { IfOk result (λ f. f ≡ is_true_formula schema.now cond.now scope.now) }
     ensures bounds { IfOk result (λ f. is_within (2 ^ 65) f ≡ true) }
 {
-    let levels = Levels::Given(scope);
-    translate(alloc, schema.tables().as_slice(), &levels, cond, true)
+    let standing = Standing::new(scope);
+    translate(alloc, schema.tables().as_slice(), &standing, cond, true)
 }
 
 /// The formula that holds exactly where the condition is false, in databases of the schema's domains, at bindings
@@ -273,9 +263,9 @@ pub fn is_false(
     scope: &Scope,
 ) -> Result<Formula, NoMemory>
     requires { CanStand schema.now cond.now scope.now }
-    ensures formula { IfOk result (λ f. f ≡ is_false_formula schema.now cond.now (standing scope.now)) }
+    ensures formula { IfOk result (λ f. f ≡ is_false_formula schema.now cond.now scope.now) }
     ensures bounds { IfOk result (λ f. is_within (2 ^ 65) f ≡ true) }
 {
-    let levels = Levels::Given(scope);
-    translate(alloc, schema.tables().as_slice(), &levels, cond, false)
+    let standing = Standing::new(scope);
+    translate(alloc, schema.tables().as_slice(), &standing, cond, false)
 }

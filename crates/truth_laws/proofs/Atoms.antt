@@ -10,7 +10,7 @@ use Rattle.lint_tables.specs.Ways.{ways_of}
 use Rattle.lint_tables.specs.Operators.{negation}
 use Rattle.lint_core.specs.declared.condition.Term.{Term}
 use Rattle.lint_core.specs.declared.condition.Term.TheVariants as term
-use Rattle.lint_core.specs.Condition.{at_entry}
+use Rattle.lint_core.specs.Fits.{at_entry}
 use Rattle.lint_core.specs.declared.condition.Block.{Block, roll-Block, fold-Block, fold-roll-Block, map-Block}
 use Rattle.lint_core.specs.declared.condition.Cond.{Cond, ind-Cond, roll-Cond, fold-roll-Cond, map-Cond}
 use Rattle.lint_core.specs.declared.condition.Cond.TheOpen.{Cond-F, Block-F}
@@ -23,7 +23,8 @@ use Rattle.sort_formula.specs.declared.formula.Formula.{Formula, fold-Formula, f
 use Rattle.sort_formula.specs.declared.formula.Formula.TheVariants as f
 use Rattle.sort_formula.specs.declared.formula.Formula.TheOpen.{Formula-F}
 use Rattle.sort_formula.specs.Negated.{negated, negated_atom, null_of, fails}
-use Rattle.sort_formula.specs.Sides.{Scope, side_of, added_to, nothing, is_null_term, is_text_term, texts_formula, ways_formula, values_formula, compare_formula, compare_false_formula, is_null_formula, not_null_formula}
+use Rattle.lint_core.specs.declared.scope.Scope.{Scope}
+use Rattle.sort_formula.specs.Sides.{side_of, added_to, nothing, is_null_term, is_text_term, texts_formula, ways_formula, values_formula, compare_formula, compare_false_formula, is_null_formula, not_null_formula}
 use Rattle.sort_formula.specs.Translation as translating
 use Rattle.sort_formula.specs.Translation.{Both, swapped_if, inside, translation, translation_step, exist_rows, for_all_rows}
 use Rattle.sort_formula.proofs.Holding.{negated_of_atom, negated_and, negated_or, negated_exists, negated_forall}

@@ -23,7 +23,8 @@ use Rattle.sort_formula.specs.declared.formula.Formula.TheVariants as f
 use Rattle.sort_formula.specs.declared.formula.Formula.TheOpen.{Formula-F}
 use Rattle.sort_formula.specs.Negated.{negated, negated_atom}
 use Rattle.sort_formula.specs.Sentences.{Meaning, layer_is, kind_at, is_number_kind, is_number_side, is_text_side, atom_fits, formula_fits, is_variable, has_variable, is_moderate, atom_is_bound, is_bound}
-use Rattle.sort_formula.specs.Sides.{Scope, compare_formula, is_null_formula, not_null_formula}
+use Rattle.lint_core.specs.declared.scope.Scope.{Scope}
+use Rattle.sort_formula.specs.Sides.{compare_formula, is_null_formula, not_null_formula}
 use Rattle.sort_formula.specs.Translation.{translation}
 use Rattle.sort_formula.proofs.Fitting.{bound_parts, fits_atom, fits_and, fits_or, fits_exists, fits_forall}
 use Rattle.lint_base.proofs.Lists.{both_left, both_right}

@@ -15,14 +15,16 @@ use Rattle.lint_core.specs.declared.schema.Kind.{Kind}
 use Rattle.lint_core.specs.declared.schema.Kind.TheVariants as kind
 use Rattle.lint_core.specs.declared.schema.Table.{Table}
 use Rattle.lint_core.specs.Comparison.{plus}
-use Rattle.lint_core.specs.Condition.{at_entry, place_of, cell_value, term_value}
+use Rattle.lint_core.specs.Condition.{place_of, cell_value, term_value}
+use Rattle.lint_core.specs.Fits.{at_entry}
 use Rattle.lint_core.specs.Database.{Place, value_at}
 use Rattle.lint_core.specs.Fits.{cell_kind, term_kind}
 use Rattle.lint_core.specs.Kind.{column_kind, kind_of, with_added}
 use Rattle.lint_core.specs.Meets.{is_of_domains}
 use Rattle.sort_formula.specs.declared.formula.Side.TheVariants as side
 use Rattle.sort_formula.specs.Holds as holds
-use Rattle.sort_formula.specs.Sides.{Scope, side_of, added_to, is_null_term}
+use Rattle.lint_core.specs.declared.scope.Scope.{Scope}
+use Rattle.sort_formula.specs.Sides.{side_of, added_to, is_null_term}
 use Rattle.sort_formula.specs.Standpoint.{IsRowOf}
 use Rattle.formula_laws.proofs.Cells.{may_be_number, may_be_text, number_side, text_side}
 use Rattle.truth_laws.proofs.Comparing.{Says}

@@ -11,7 +11,8 @@ use Rattle.lint_core.specs.declared.database.Truth.{Truth}
 use Rattle.lint_core.specs.declared.database.Truth.TheVariants.{False, True}
 use Rattle.lint_core.specs.declared.schema.Table.{Table}
 use Rattle.lint_core.specs.Comparison.{compare, is_null}
-use Rattle.lint_core.specs.Condition.{Meaning, BlockMeaning, cond_step, block_step, truth, term_value, has_truth, is_false_at, at_entry}
+use Rattle.lint_core.specs.Condition.{Meaning, BlockMeaning, cond_step, block_step, truth, term_value, has_truth, is_false_at}
+use Rattle.lint_core.specs.Fits.{at_entry}
 use Rattle.lint_core.specs.Database.{Place}
 use Rattle.lint_core.specs.Evaluation.{Evaluated, and_then, map_ok, all_ok}
 use Rattle.lint_core.specs.Fits.{cond_fits, check_fits, count_conditions, is_flat, flat_step}
@@ -23,7 +24,7 @@ use Rattle.sort_formula.specs.Axioms.{Axiom, check_axiom, row_scope}
 use Rattle.sort_formula.specs.Holds.{holds}
 use Rattle.sort_formula.specs.Negated.{negated}
 use Rattle.sort_formula.specs.Sentences.{formula_fits}
-use Rattle.sort_formula.specs.Sides.{Scope}
+use Rattle.lint_core.specs.declared.scope.Scope.{Scope}
 use Rattle.sort_formula.specs.Standpoint.{StandsFor}
 use Rattle.sort_formula.specs.Translation.{is_false_formula}
 use Rattle.formula_laws.proofs.Complements.{complements}

@@ -26,7 +26,8 @@ use Rattle.sort_formula.specs.declared.formula.Atom.TheVariants as atom
 use Rattle.sort_formula.specs.declared.formula.Formula.{Formula}
 use Rattle.sort_formula.specs.declared.formula.Formula.TheVariants as f
 use Rattle.sort_formula.specs.Holds.{holds, side_value, differ_by_at_most, are_texts}
-use Rattle.sort_formula.specs.Sides.{Scope, side_of, added_to, ways_formula, texts_formula, nothing}
+use Rattle.lint_core.specs.declared.scope.Scope.{Scope}
+use Rattle.sort_formula.specs.Sides.{side_of, added_to, ways_formula, texts_formula, nothing}
 use Rattle.formula_laws.proofs.Cells.{may_be_number, may_be_text}
 use Rattle.sort_formula.proofs.Holding.{holds_atom, holds_and, holds_or}
 

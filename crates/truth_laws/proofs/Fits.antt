@@ -15,7 +15,7 @@ use Rattle.lint_core.specs.declared.condition.Cond.{Cond, ind-Cond, roll-Cond, f
 use Rattle.lint_core.specs.declared.condition.Cond.TheOpen.{Cond-F, Block-F}
 use Rattle.lint_core.specs.declared.schema.Kind.{Kind}
 use Rattle.lint_core.specs.declared.schema.Table.{Table}
-use Rattle.lint_core.specs.Fits.{tables_of, table_at, cell_kind, term_kind, term_fits, is_plain}
+use Rattle.lint_core.specs.Fits.{tables_of, at_entry, cell_kind, term_kind, term_fits, is_plain}
 use Rattle.lint_core.specs.Fits as fitting
 use Rattle.lint_core.specs.Kind.{compares_both}
 use Rattle.lint_core.specs.Naming.{names, names_step, term_names}
@@ -23,7 +23,8 @@ use Rattle.sort_formula.specs.declared.formula.Formula.{Formula}
 use Rattle.sort_formula.specs.declared.formula.Formula.TheVariants as f
 use Rattle.sort_formula.specs.Negated.{negated}
 use Rattle.sort_formula.specs.Sentences.{formula_fits}
-use Rattle.sort_formula.specs.Sides.{Scope, compare_formula, compare_false_formula, is_null_formula, not_null_formula}
+use Rattle.lint_core.specs.declared.scope.Scope.{Scope}
+use Rattle.sort_formula.specs.Sides.{compare_formula, compare_false_formula, is_null_formula, not_null_formula}
 use Rattle.sort_formula.specs.Translation as translating
 use Rattle.sort_formula.specs.Translation.{Both, swapped_if, inside, translation, translation_step}
 use Rattle.sort_formula.proofs.Fitting.{fits_and, fits_or}
@@ -36,7 +37,7 @@ same_number n = grind (arith, nat_tests)
 
 -- ---- the kind of a term one level inside
 
-entry_stays : (tables : List (List ℕ)) (own : List ℕ) (level entry t : ℕ) → table_at tables level entry ≡ Some t → table_at (tables ++ own ∷ []) level entry ≡ Some t
+entry_stays : (tables : List (List ℕ)) (own : List ℕ) (level entry t : ℕ) → at_entry tables level entry ≡ Some t → at_entry (tables ++ own ∷ []) level entry ≡ Some t
 entry_stays [] own level entry t at = cc
 entry_stays (x ∷ tables) own zero entry t at = at
 entry_stays (x ∷ tables) own (suc level) entry t at = entry_stays tables own level entry t at
@@ -46,14 +47,14 @@ first_there op None b compares = cc
 first_there op (Some a) b compares = refl
 
 module _ (schema : List Table) where
-  cell_stays : (tables : List (List ℕ)) (own : List ℕ) (level entry column : ℕ) (plus : _) (table : Option ℕ) → table_at tables level entry ≡ table → is_some (cell_kind schema table column plus) ≡ true →
-      cell_kind schema (table_at (tables ++ own ∷ []) level entry) column plus ≡ cell_kind schema (table_at tables level entry) column plus
+  cell_stays : (tables : List (List ℕ)) (own : List ℕ) (level entry column : ℕ) (plus : _) (table : Option ℕ) → at_entry tables level entry ≡ table → is_some (cell_kind schema table column plus) ≡ true →
+      cell_kind schema (at_entry (tables ++ own ∷ []) level entry) column plus ≡ cell_kind schema (at_entry tables level entry) column plus
   cell_stays tables own level entry column plus None at there = cc
   cell_stays tables own level entry column plus (Some t) at there =
       ap (λ table. cell_kind schema table column plus) (entry_stays tables own level entry t at ∙ sym at)
 
   kind_stays : (tables : List (List ℕ)) (own : List ℕ) (t : Term) → is_some (term_kind schema tables t) ≡ true → term_kind schema (tables ++ own ∷ []) t ≡ term_kind schema tables t
-  kind_stays tables own (term.Cell level entry column plus) there = cell_stays tables own level entry column plus (table_at tables level entry) refl there
+  kind_stays tables own (term.Cell level entry column plus) there = cell_stays tables own level entry column plus (at_entry tables level entry) refl there
   kind_stays tables own (term.Number value unit) there = refl
   kind_stays tables own (term.Text text) there = refl
   kind_stays tables own term.Null there = refl

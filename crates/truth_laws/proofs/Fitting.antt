@@ -15,7 +15,7 @@ use Rattle.lint_core.specs.declared.condition.Term.TheVariants as term
 use Rattle.lint_core.specs.declared.schema.Kind.{Kind}
 use Rattle.lint_core.specs.declared.schema.Kind.TheVariants as kind
 use Rattle.lint_core.specs.declared.schema.Table.{Table}
-use Rattle.lint_core.specs.Condition.{at_entry}
+use Rattle.lint_core.specs.Fits.{at_entry}
 use Rattle.lint_core.specs.Fits.{cell_kind, term_kind, term_fits}
 use Rattle.lint_core.specs.Kind.{compares_both, is_text, with_added, column_kind}
 use Rattle.sort_formula.specs.declared.formula.Side.{Side}
@@ -27,7 +27,8 @@ use Rattle.sort_formula.specs.declared.formula.Formula.TheVariants as f
 use Rattle.sort_formula.specs.declared.formula.Formula.TheOpen.{Formula-F}
 use Rattle.sort_formula.specs.Negated.{negated, negated_atom, null_of, fails}
 use Rattle.sort_formula.specs.Sentences.{formula_fits, atom_fits, is_number_side, is_text_side, is_number_kind, kind_at}
-use Rattle.sort_formula.specs.Sides.{Scope, side_of, added_to, is_null_term, nothing, texts_formula, ways_formula, compare_formula, compare_false_formula, is_null_formula, not_null_formula}
+use Rattle.lint_core.specs.declared.scope.Scope.{Scope}
+use Rattle.sort_formula.specs.Sides.{side_of, added_to, is_null_term, nothing, texts_formula, ways_formula, compare_formula, compare_false_formula, is_null_formula, not_null_formula}
 use Rattle.sort_formula.specs.Translation.{exist_rows, for_all_rows}
 use Rattle.sort_formula.proofs.Fitting.{fits_atom, fits_and, fits_or, fits_exists, fits_forall}
 use Rattle.sort_formula.proofs.Holding.{negated_of_atom, negated_and, negated_or, negated_exists, negated_forall}

@@ -11,12 +11,14 @@ use Rattle.lint_core.specs.declared.database.Database.{Database}
 use Rattle.lint_core.specs.declared.database.Value.TheVariants.{Null}
 use Rattle.lint_core.specs.declared.schema.Table.{Table}
 use Rattle.lint_core.specs.Comparison.{plus}
-use Rattle.lint_core.specs.Condition.{at_entry, place_of, term_value}
+use Rattle.lint_core.specs.Condition.{place_of, term_value}
+use Rattle.lint_core.specs.Fits.{at_entry}
 use Rattle.lint_core.specs.Database.{Place, value_at}
 use Rattle.lint_core.specs.Fits.{cell_kind, term_kind}
 use Rattle.lint_core.specs.Meets.{is_of_domains}
 use Rattle.lint_core.specs.Naming.{names, term_names}
-use Rattle.sort_formula.specs.Sides.{Scope, from_number}
+use Rattle.lint_core.specs.declared.scope.Scope.{Scope}
+use Rattle.sort_formula.specs.Sides.{from_number}
 use Rattle.sort_formula.specs.Standpoint.{IsRowOf, StandsFor}
 use Rattle.sort_formula.specs.Translation.{inside}
 use Rattle.lint_base.proofs.Lists.{slice_get_front, get_behind as get_after, get_before, slice_get_last}

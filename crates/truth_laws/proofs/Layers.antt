@@ -18,7 +18,8 @@ use Rattle.lint_core.specs.Fits.{cond_fits, tables_of}
 use Rattle.lint_core.specs.Kind.{compares_both}
 use Rattle.lint_core.specs.Naming.{names, names_step, term_names}
 use Rattle.sort_formula.specs.declared.formula.Formula.TheVariants as f
-use Rattle.sort_formula.specs.Sides.{Scope, everything, nothing, compare_formula, compare_false_formula, is_null_formula, not_null_formula}
+use Rattle.lint_core.specs.declared.scope.Scope.{Scope}
+use Rattle.sort_formula.specs.Sides.{everything, nothing, compare_formula, compare_false_formula, is_null_formula, not_null_formula}
 use Rattle.sort_formula.specs.Translation.{Meaning, BlockMeaning, translation, translation_step, block_step, swapped_if, exists_both, in_both, scalar_both, is_true_formula, is_false_formula}
 use Rattle.lint_base.proofs.Lists.{any_map}
 

@@ -12,7 +12,8 @@ use Rattle.lint_core.specs.declared.database.Value.{Value}
 use Rattle.lint_core.specs.declared.database.Value.TheVariants.{Null, Int, Text}
 use Rattle.lint_core.specs.declared.schema.Table.{Table}
 use Rattle.lint_core.specs.Comparison.{compare, plus, is_null}
-use Rattle.lint_core.specs.Condition.{at_entry, cell_value, term_value}
+use Rattle.lint_core.specs.Condition.{cell_value, term_value}
+use Rattle.lint_core.specs.Fits.{at_entry}
 use Rattle.lint_core.specs.Database.{Place}
 use Rattle.lint_core.specs.Fits.{cell_kind, term_kind, term_fits}
 use Rattle.lint_core.specs.Kind.{compares_both}
@@ -20,7 +21,8 @@ use Rattle.lint_core.specs.Meets.{is_of_domains}
 use Rattle.lint_core.specs.Truth.{is_true, is_false}
 use Rattle.sort_formula.specs.declared.formula.Atom.TheVariants as atom
 use Rattle.sort_formula.specs.Holds as holds
-use Rattle.sort_formula.specs.Sides.{Scope, side_of, added_to, is_null_term, texts_formula, ways_formula, compare_formula, compare_false_formula, is_null_formula, not_null_formula}
+use Rattle.lint_core.specs.declared.scope.Scope.{Scope}
+use Rattle.sort_formula.specs.Sides.{side_of, added_to, is_null_term, texts_formula, ways_formula, compare_formula, compare_false_formula, is_null_formula, not_null_formula}
 use Rattle.sort_formula.specs.Standpoint.{IsRowOf}
 use Rattle.sort_formula.proofs.Holding.{holds_atom, holds_and, holds_or}
 use Rattle.truth_laws.proofs.Cells.{Stands, says, side_same}

@@ -5,7 +5,8 @@ use Rattle.std.specs.List.{zip}
 use Rattle.std.specs.Prelude.{slice_get, option_and_then}
 use Rattle.lint_core.specs.declared.condition.Cond.{Cond}
 use Rattle.lint_core.specs.declared.database.Database.{Database}
-use Rattle.lint_core.specs.Condition.{at_entry, place_of}
+use Rattle.lint_core.specs.Condition.{place_of}
+use Rattle.lint_core.specs.Fits.{at_entry}
 use Rattle.lint_core.specs.Database.{Place}
 use Rattle.sort_formula.specs.Loose.{rows_at}
 use Rattle.sort_formula.specs.Sides.{from_number, numbered_from, all_of, scope_of}

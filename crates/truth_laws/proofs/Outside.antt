@@ -5,9 +5,10 @@ use Rattle.std.proofs.lemmas.List.{length-append, length-map}
 use Rattle.std.proofs.lemmas.Option.{slice_get-map, slice_get_past as past_end}
 use Rattle.std.specs.Option.{option_map}
 use Rattle.std.specs.Prelude.{Some, None, slice_get, option_and_then}
-use Rattle.lint_core.specs.Condition.{at_entry}
+use Rattle.lint_core.specs.Fits.{at_entry}
 use Rattle.lint_core.specs.Database.{below}
-use Rattle.sort_formula.specs.Sides.{Scope, from_number}
+use Rattle.lint_core.specs.declared.scope.Scope.{Scope}
+use Rattle.sort_formula.specs.Sides.{from_number}
 use Rattle.sort_formula.specs.Translation.{inside}
 use Rattle.lint_base.proofs.Lists.{slice_get_front, get_behind, slice_get_last}
 

@@ -24,7 +24,8 @@ use Rattle.lint_core.specs.Truth.{is_true, is_false, truth_of, not_of, negated_i
 use Rattle.lint_core.proofs.Conditions.{truth_true, truth_false, truth_and, truth_or, truth_not, truth_compare, truth_is_null, least_true}
 use Rattle.sort_formula.specs.declared.formula.Formula.{Formula}
 use Rattle.sort_formula.specs.Holds.{holds}
-use Rattle.sort_formula.specs.Sides.{Scope, everything, nothing, is_null_formula, not_null_formula}
+use Rattle.lint_core.specs.declared.scope.Scope.{Scope}
+use Rattle.sort_formula.specs.Sides.{everything, nothing, is_null_formula, not_null_formula}
 use Rattle.sort_formula.specs.Standpoint.{StandsFor}
 use Rattle.sort_formula.specs.Translation.{Both, translation, swapped_if, is_true_formula, is_false_formula}
 use Rattle.sort_formula.proofs.Holding.{holds_and, holds_or}

@@ -10,7 +10,7 @@ use Rattle.lint_core.specs.Database.{Place}
 use Rattle.lint_core.specs.Fits.{cond_fits}
 use Rattle.lint_core.specs.Truth.{is_true, is_false}
 use Rattle.sort_formula.specs.Holds.{holds}
-use Rattle.sort_formula.specs.Sides.{Scope}
+use Rattle.lint_core.specs.declared.scope.Scope.{Scope}
 use Rattle.sort_formula.specs.Standpoint.{StandsFor}
 use Rattle.sort_formula.specs.Translation.{Both, translation}
 

@@ -20,7 +20,8 @@ use Rattle.lint_core.specs.declared.database.Truth.{Truth}
 use Rattle.lint_core.specs.declared.database.Value.{Value}
 use Rattle.lint_core.specs.declared.schema.Table.{Table}
 use Rattle.lint_core.specs.Comparison.{compare}
-use Rattle.lint_core.specs.Condition.{Inner, BlockMeaning, truth, at_entry, term_value, selected, exists_truth, in_truth, items_at, scalar_value}
+use Rattle.lint_core.specs.Condition.{Inner, BlockMeaning, truth, term_value, selected, exists_truth, in_truth, items_at, scalar_value}
+use Rattle.lint_core.specs.Fits.{at_entry}
 use Rattle.lint_core.specs.Database.{Place, row_lists}
 use Rattle.lint_core.specs.Evaluation.{and_then, map_ok}
 use Rattle.lint_core.specs.Fits.{cond_fits, tables_of, term_kind, is_plain}
@@ -34,7 +35,8 @@ use Rattle.sort_formula.specs.declared.formula.Formula.TheVariants as f
 use Rattle.sort_formula.specs.Holds.{holds}
 use Rattle.sort_formula.specs.Negated.{negated}
 use Rattle.sort_formula.specs.Rows.{tables_of_rows}
-use Rattle.sort_formula.specs.Sides.{Scope, compare_formula, compare_false_formula}
+use Rattle.lint_core.specs.declared.scope.Scope.{Scope}
+use Rattle.sort_formula.specs.Sides.{compare_formula, compare_false_formula}
 use Rattle.sort_formula.specs.Standpoint.{IsRowOf, StandsFor}
 use Rattle.sort_formula.specs.Translation.{inside, is_true_formula, exist_rows, for_all_rows, exists_both, in_both, scalar_both, swapped_if}
 use Rattle.formula_laws.proofs.Complements.{complements}

@@ -10,7 +10,8 @@ ghost use Rattle.lint_core.specs.declared.query.Query.{Query};
 ghost use Rattle.lint_core.specs.declared.query.Question.{Question};
 ghost use Rattle.lint_core.specs.declared.schema.Table.{Table};
 ghost use Rattle.lint_core.specs.Asked.{is_asked};
-ghost use Rattle.lint_core.specs.Condition.{truth, at_entry};
+ghost use Rattle.lint_core.specs.Condition.{truth};
+ghost use Rattle.lint_core.specs.Fits.{at_entry};
 ghost use Rattle.lint_core.specs.Database.{Place};
 ghost use Rattle.lint_core.specs.Fits.{cond_fits, query_fits};
 ghost use Rattle.lint_core.specs.Meets.{is_of_domains};
@@ -20,7 +21,7 @@ ghost use Rattle.lint_core.specs.Truth.{is_true, is_false};
 ghost use Rattle.sort_formula.specs.Holds.{holds};
 ghost use Rattle.sort_formula.specs.Loose.{by_formula};
 ghost use Rattle.sort_formula.specs.Sentences.{formula_fits};
-ghost use Rattle.sort_formula.specs.Sides.{Scope as Standing};
+ghost use Rattle.lint_core.specs.declared.scope.Scope.{Scope};
 ghost use Rattle.sort_formula.specs.Standpoint.{StandsFor};
 ghost use Rattle.sort_formula.specs.Translation.{is_true_formula, is_false_formula};
 
@@ -29,12 +30,12 @@ ghost use Rattle.sort_formula.specs.Translation.{is_true_formula, is_false_formu
 /// where it is false.
 pub fn formulas_say_truth()
     ensures says_true { (schema : List Table) (db : Database) → is_of_domains schema db ≡ true
-        → (cond : Condition) (scope : Standing) → cond_fits schema scope.tables cond ≡ true
+        → (cond : Condition) (scope : Scope) → cond_fits schema scope.tables cond ≡ true
         → (binding : List (List ℕ)) (rows : List Place) → StandsFor db scope binding rows cond
         → (t : Truth) → truth db cond scope.tables binding ≡ Ok t
         → holds db (is_true_formula schema cond scope) rows ≡ is_true t }
     ensures says_false { (schema : List Table) (db : Database) → is_of_domains schema db ≡ true
-        → (cond : Condition) (scope : Standing) → cond_fits schema scope.tables cond ≡ true
+        → (cond : Condition) (scope : Scope) → cond_fits schema scope.tables cond ≡ true
         → (binding : List (List ℕ)) (rows : List Place) → StandsFor db scope binding rows cond
         → (t : Truth) → truth db cond scope.tables binding ≡ Ok t
         → holds db (is_false_formula schema cond scope) rows ≡ is_false t }
@@ -43,13 +44,13 @@ pub fn formulas_say_truth()
 /// The formulas of a condition that fits the schema fit it too, by the tables of the variables outside, where these
 /// are the tables of the entries. Of an entry of the main query that the condition does not name nothing is asked.
 pub fn formulas_fit()
-    ensures says_true { (schema : List Table) (cond : Condition) (scope : Standing) → cond_fits schema scope.tables cond ≡ true
+    ensures says_true { (schema : List Table) (cond : Condition) (scope : Scope) → cond_fits schema scope.tables cond ≡ true
         → map length scope.levels ≡ map length scope.tables
         → (outside : List ℕ) → length outside ≡ scope.depth
         → ((entry : ℕ) → names entry cond ≡ true → option_and_then (slice_get outside) (at_entry scope.levels 0 entry) ≡ at_entry scope.tables 0 entry)
         → ((level entry : ℕ) → option_and_then (slice_get outside) (at_entry scope.levels (suc level) entry) ≡ at_entry scope.tables (suc level) entry)
         → formula_fits schema (is_true_formula schema cond scope) outside ≡ true }
-    ensures says_false { (schema : List Table) (cond : Condition) (scope : Standing) → cond_fits schema scope.tables cond ≡ true
+    ensures says_false { (schema : List Table) (cond : Condition) (scope : Scope) → cond_fits schema scope.tables cond ≡ true
         → map length scope.levels ≡ map length scope.tables
         → (outside : List ℕ) → length outside ≡ scope.depth
         → ((entry : ℕ) → names entry cond ≡ true → option_and_then (slice_get outside) (at_entry scope.levels 0 entry) ≡ at_entry scope.tables 0 entry)

@@ -14,7 +14,7 @@ use Rattle.lint_core.specs.declared.schema.Table.{Table}
 use Rattle.lint_core.specs.Fits.{Meaning, BlockMeaning, fits_step, cond_fits, block_fits, block_meaning, tables_of, query_fits, selection_fits, count_conditions, count_step}
 use Rattle.lint_core.specs.Fits as fits
 use Rattle.lint_base.proofs.Lists.{both_left, both_right}
-use Rattle.truth_formula.specs.declared.scope.Scope.{Scope}
+use Rattle.lint_core.specs.declared.scope.Scope.{Scope}
 use Rattle.truth_formula.specs.Scopes.{CanStand, count_entries, entries_step, block_step}
 
 module _ (schema : List Table) where

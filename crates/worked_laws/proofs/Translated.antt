@@ -8,7 +8,8 @@ use Rattle.lint_core.specs.declared.condition.Cond.TheVariants as c
 use Rattle.lint_core.specs.declared.condition.Cond.TheOpen.{Cond-F}
 use Rattle.lint_core.specs.declared.condition.Block.{Block, fold-Block}
 use Rattle.lint_core.specs.declared.schema.Table.{Table}
-use Rattle.sort_formula.specs.Sides.{Scope, everything, nothing, compare_formula, compare_false_formula}
+use Rattle.lint_core.specs.declared.scope.Scope.{Scope}
+use Rattle.sort_formula.specs.Sides.{everything, nothing, compare_formula, compare_false_formula}
 use Rattle.sort_formula.specs.Translation.{Meaning, BlockMeaning, translation, translation_step, block_step}
 
 module _ (schema : List Table) where

@@ -16,7 +16,7 @@ ghost use Rattle.worked_laws.specs.FormulaExamples.{two_rows_agree, refuted_by_k
 ghost use Rattle.sort_formula.specs.Negated.{negated};
 ghost use Rattle.sort_formula.specs.Placed.{placed};
 ghost use Rattle.sort_formula.specs.Sentences.{is_sentence, formula_fits};
-ghost use Rattle.sort_formula.specs.Sides.{Scope};
+ghost use Rattle.lint_core.specs.declared.scope.Scope.{Scope};
 ghost use Rattle.sort_formula.specs.Translation.{is_true_formula};
 
 /// That a column differs from 5 says that it is at most 4 or at least 6; a key says of any two rows that they are

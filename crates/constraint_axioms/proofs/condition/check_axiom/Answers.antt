@@ -3,9 +3,9 @@ use Rattle.sort_formula.specs.declared.formula.Formula.TheVariants as f
 use Rattle.sort_formula.specs.Negated.{negated}
 use Rattle.sort_formula.specs.Sentences.{is_sentence}
 use Rattle.sort_formula.specs.Translation.{is_false_formula}
-use Rattle.truth_formula.specs.declared.scope.Scope.{Scope}
+use Rattle.lint_core.specs.declared.scope.Scope.{Scope}
 use Rattle.sort_formula.specs.Bounds.{is_within}
-use Rattle.truth_formula.specs.Scopes.{CanStand, standing}
+use Rattle.truth_formula.specs.Scopes.{CanStand}
 use Rattle.constraint_axioms.proofs.Violations.{can_stand, check_sentence}
 use Rattle.constraint_axioms.proofs.condition.check_axiom.Goals as goal
 
@@ -20,7 +20,7 @@ plain-requires c =
     let schema = c.args.schema.now in
     let check = c.args.check.now in
     let number = c.args.number in
-    let violated = ap (λ (s : Scope). is_false_formula schema check (standing s)) c.in_ok-scope.ensures in
+    let violated = ap (λ (s : Scope). is_false_formula schema check s) c.in_ok-scope.ensures in
     let kept = c.in_ok-kept.ensures.formula ∙ ap negated violated in
     ap is_sentence (c.in_ok-for_all.ensures ∙ ap (f.Forall number) kept)
     ∙ check_sentence schema number check c.requires c.formulas_fit.ensures.says_false (sym (ap (is_within (2 ^ 65)) violated) ∙ c.in_ok-kept.ensures.bounds)

@@ -1,22 +1,19 @@
 use Rattle.std.proofs.Common.{◌≡◌, ◌∙◌, ◌^◌, ap₂, true, false}
 use Rattle.std.proofs.lemmas.Result.{IfOk-weaker}
 use Rattle.sort_formula.specs.Translation.{is_false_formula, translation}
-use Rattle.truth_formula.specs.declared.levels.Levels.TheVariants as levels
 use Rattle.sort_formula.specs.Bounds.{is_within}
-use Rattle.truth_formula.specs.HalfOpen.{is_half_open}
-use Rattle.truth_formula.specs.Levels.{scope_of}
-use Rattle.truth_formula.specs.Parts.{chosen}
-use Rattle.truth_formula.specs.Scopes.{standing}
+use Rattle.truth_formula.specs.inner.HalfOpen.{is_half_open}
+use Rattle.truth_formula.specs.inner.Parts.{chosen}
+use Rattle.truth_formula.specs.inner.Standing.{scope_of}
 use Rattle.truth_formula.proofs.Nearness.{near_within}
-use Rattle.truth_formula.proofs.Standing.{scope_given}
 use Rattle.truth_formula.proofs.translation.is_false.Goals as goal
 
 pub returns-clause-formula : goal.returns-clause-formula
 returns-clause-formula c =
     IfOk-weaker c.translate.result
-    (λ made. made ≡ chosen false (translation c.as_slice.result.now c.args.cond.now (scope_of (levels.Given c.args.scope))))
-    (λ made. made ≡ is_false_formula c.args.schema.now c.args.cond.now (standing c.args.scope.now))
-    (λ made is. is ∙ ap₂ (λ tables scope. chosen false (translation tables c.args.cond.now scope)) (c.as_slice.ensures ∙ c.tables.ensures.tables) (scope_given c.args.scope))
+    (λ made. made ≡ chosen false (translation c.as_slice.result.now c.args.cond.now (scope_of c.new-standing.result)))
+    (λ made. made ≡ is_false_formula c.args.schema.now c.args.cond.now c.args.scope.now)
+    (λ made is. is ∙ ap₂ (λ tables scope. chosen false (translation tables c.args.cond.now scope)) (c.as_slice.ensures ∙ c.tables.ensures.tables) c.new-standing.ensures)
     c.translate.ensures.formula
 
 pub returns-clause-bounds : goal.returns-clause-bounds

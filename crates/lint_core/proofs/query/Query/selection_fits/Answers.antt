@@ -1,4 +1,4 @@
-use Rattle.lint_core.proofs.Levels.{tables_inside, tables_outside}
+use Rattle.lint_core.proofs.LevelTables.{tables_inside, tables_outside}
 use Rattle.lint_core.proofs.query.Query.selection_fits.Goals as goal
 
 pub returns : goal.returns

@@ -3,7 +3,8 @@ use Rattle.std.proofs.lemmas.Grind.{common_steps}
 use Rattle.lint_core.specs.Fits.{tables_of}
 use Rattle.sql_bind.specs.Names.{level_tables}
 use Rattle.sql_bind.specs.Levels.{levels_seen}
-use Rattle.sql_bind.proofs.LevelTables.{length_inside, table_at_outer, table_at_own, tables_inside}
+use Rattle.lint_core.proofs.LevelTables.{length_inside, at_outer, at_own}
+use Rattle.sql_bind.proofs.LevelTables.{tables_inside}
 use Rattle.sql_bind.proofs.levels.Levels.+look_up.Goals as goal
 
 pub returns-in-Ok-clause-there : goal.returns-in-Ok-clause-there
@@ -12,7 +13,7 @@ returns-in-Ok-clause-there t c =
     let own = tables_of c.in-Inside.entries.now in
     let low : c.args.level < length tables = c.in-Ok.ensures.there.0 in
     rw (c.in-Inside.is, tables_inside c.in-Inside.entries c.in-Inside.first c.in-Inside.end c.in-Inside.outer, length_inside)
-    (omega arith, c.in-Ok.ensures.there.1 ∙ sym (table_at_outer tables own c.args.level c.args.entry low))
+    (omega arith, c.in-Ok.ensures.there.1 ∙ sym (at_outer tables own c.args.level c.args.entry low))
 
 pub returns-in-Err-eq0-clause-there : goal.returns-in-Err-eq0-clause-there
 returns-in-Err-eq0-clause-there t c =
@@ -20,7 +21,7 @@ returns-in-Err-eq0-clause-there t c =
     let own = tables_of c.in-Inside.entries.now in
     let same : c.args.level ≡ length tables = grind (arith, common_steps) in
     rw (c.in-Inside.is, tables_inside c.in-Inside.entries c.in-Inside.first c.in-Inside.end c.in-Inside.outer, length_inside)
-    (omega arith, c.table_of.ensures ∙ sym (table_at_own tables own c.args.level c.args.entry same))
+    (omega arith, c.table_of.ensures ∙ sym (at_own tables own c.args.level c.args.entry same))
 
 pub returns-in-Err-clause-further : goal.returns-in-Err-clause-further
 returns-in-Err-clause-further t c =

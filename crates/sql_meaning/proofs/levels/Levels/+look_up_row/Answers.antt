@@ -1,6 +1,7 @@
 use Rattle.std.proofs.Common.{◌≡◌, ◌∙◌, ◌<◌, sym, arith, length}
 use Rattle.std.proofs.lemmas.Grind.{common_steps}
-use Rattle.sql_meaning.proofs.Standing.{length_inside, at_outer, at_own, binding_inside}
+use Rattle.lint_core.proofs.LevelTables.{length_inside, at_outer, at_own}
+use Rattle.sql_meaning.proofs.Standing.{binding_inside}
 use Rattle.sql_meaning.proofs.levels.Levels.+look_up_row.Goals as goal
 use Rattle.sql_meaning.specs.Standing.{binding_of_levels}
 

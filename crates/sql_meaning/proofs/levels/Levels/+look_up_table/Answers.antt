@@ -1,7 +1,8 @@
 use Rattle.std.proofs.Common.{◌≡◌, ◌∙◌, ◌<◌, sym, arith, length}
 use Rattle.std.proofs.lemmas.Grind.{common_steps}
 use Rattle.lint_core.specs.Fits.{tables_of}
-use Rattle.sql_meaning.proofs.Standing.{length_inside, at_outer, at_own, tables_inside}
+use Rattle.lint_core.proofs.LevelTables.{length_inside, at_outer, at_own}
+use Rattle.sql_meaning.proofs.Standing.{tables_inside}
 use Rattle.sql_meaning.proofs.levels.Levels.+look_up_table.Goals as goal
 use Rattle.sql_meaning.specs.Standing.{tables_of_levels}
 

@@ -7,7 +7,8 @@ use Rattle.lint_tables.specs.declared.op.Op.{Op}
 use Rattle.sort_formula.specs.declared.formula.Formula.{Formula}
 use Rattle.sort_formula.specs.declared.formula.Formula.TheVariants as f
 use Rattle.sort_formula.specs.Negated.{negated}
-use Rattle.sort_formula.specs.Sides.{Scope, compare_formula}
+use Rattle.lint_core.specs.declared.scope.Scope.{Scope}
+use Rattle.sort_formula.specs.Sides.{compare_formula}
 use Rattle.sort_formula.specs.Translation as translation
 use Rattle.sort_formula.specs.Translation.{Both, Meaning, BlockMeaning, inside, inner_true, exist_rows, for_all_rows}
 use Rattle.truth_formula.specs.Scopes.{entries_step, block_step}

@@ -1,8 +1,7 @@
-use Rattle.std.proofs.Common.{◌≡◌, ◌∙◌, sym, arith, length}
-use Rattle.std.proofs.lemmas.Bool.Decides.{nat_tests}
+use Rattle.std.proofs.Common.{sym, arith, length}
 use Rattle.lint_core.specs.Fits.{tables_of}
-use Rattle.truth_formula.proofs.Standing.{length_tables, number_within, number_past}
-use Rattle.truth_formula.proofs.levels.variable_of.Goals as goal
+use Rattle.truth_formula.proofs.Variables.{length_tables, number_within, number_past}
+use Rattle.truth_formula.proofs.standing.variable_of.Goals as goal
 
 pub returns-then-entry-entries : goal.returns-then-entry-entries
 returns-then-entry-entries c =

@@ -1,0 +1,3 @@
+pub mod HalfOpen
+pub mod Parts
+pub mod Standing
