@@ -21,7 +21,7 @@ use Rattle.lint_core.specs.declared.query.Query.{Query}
 use Rattle.lint_core.specs.declared.query.Question.TheVariants.{NeedlessDistinct, NeedlessJoin}
 use Rattle.sql_meaning.proofs.Gathered.{below_from, below_end}
 use Rattle.sql_meaning.proofs.Truths.{no_memory}
-use Rattle.sql_meaning.specs.Plan.{are_same_values, at_rest, at_two, none_fits}
+use Rattle.sql_meaning.specs.inner.Plan.{are_same_values, at_rest, at_two, none_fits}
 use Rattle.sql_meaning.specs.Stops.{Gives}
 use Rattle.sql_meaning.specs.declared.stop.TruthStop.TheVariants.{TwoRows, NoMemory}
 use Rattle.sql_meaning.specs.declared.stop.TruthStop.{TruthStop}

@@ -16,7 +16,7 @@ use Rattle.lint_core.specs.declared.database.Truth.TheVariants.{False, Unknown, 
 use Rattle.lint_core.specs.declared.database.Truth.{Truth}
 use Rattle.lint_core.specs.declared.database.Value.{Value}
 use Rattle.sql_meaning.proofs.Truths.{no_memory}
-use Rattle.sql_meaning.specs.Gathered.{joined, gathered, gathered_at, gathered_over}
+use Rattle.sql_meaning.specs.inner.Gathered.{joined, gathered, gathered_at, gathered_over}
 use Rattle.sql_meaning.specs.Stops.{Gives}
 use Rattle.sql_meaning.specs.declared.stop.TruthStop.TheVariants.{TwoRows, NoMemory}
 use Rattle.sql_meaning.specs.declared.stop.TruthStop.{TruthStop}

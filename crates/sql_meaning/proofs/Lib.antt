@@ -11,3 +11,4 @@ mod Weights
 mod ReplacedParts
 mod Reached
 mod Sought
+mod WholeSubqueries

@@ -2,7 +2,7 @@
 use Rattle.std.proofs.Common.{◌≡◌, ◌∙◌, refl, sym, ap, ap₂, ℕ, zero, suc, ◌+◌, ◌<◌, length, drop, drop-cons, get_or, arith, List, [], ◌∷◌, ◌++◌, Result, Ok, Err, slice_get}
 use Rattle.std.specs.Result.{result_ok}
 use Rattle.std.specs.List.{flat_map}
-use Rattle.sql_meaning.specs.Reached.{item_at}
+use Rattle.sql_meaning.specs.inner.Reached.{item_at}
 
 abbrev pub behind_it : {A : Type 0} → Result A ℕ → List A → Result A ℕ
 behind_it (Ok x) ys = Ok x

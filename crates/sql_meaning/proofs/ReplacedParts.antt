@@ -11,7 +11,7 @@ use Rattle.lint_core.specs.declared.condition.Block.{Block, roll-out-Block}
 use Rattle.lint_core.specs.Predicates.{predicates, with_replaced, first_or}
 use Rattle.lint_core.proofs.Parted.{replaced_true, replaced_false, replaced_and, replaced_or, replaced_not, replaced_compare, replaced_is_null, replaced_exists, replaced_in_subquery, replaced_scalar}
 use Rattle.lint_core.proofs.Parted.{replaced_among, replaced_kept, block_replaced}
-use Rattle.sql_meaning.specs.Replacing.{after, replaced_at, parts_at, alone_at, block_at, around_at}
+use Rattle.sql_meaning.specs.inner.ReplacedParts.{after, replaced_at, parts_at, alone_at, block_at, around_at}
 
 -- what is left
 

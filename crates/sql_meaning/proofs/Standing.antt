@@ -3,7 +3,7 @@ use Rattle.std.proofs.Common.{◌≡◌, ◌∙◌, ap, sym, ℕ, List, [], ◌�
 use Rattle.std.specs.Borrow.{Bor}
 use Rattle.lint_core.specs.Fits.{tables_of}
 use Rattle.lint_core.specs.declared.condition.Entry.{Entry}
-use Rattle.sql_meaning.specs.Standing.{tables_step, tables_of_levels, binding_step, binding_of_levels}
+use Rattle.sql_meaning.specs.inner.Standing.{tables_step, tables_of_levels, binding_step, binding_of_levels}
 use Rattle.sql_meaning.specs.declared.levels.Levels.{Levels}
 use Rattle.sql_meaning.specs.declared.levels.Levels.TheFolds.{fold-roll-Levels}
 use Rattle.sql_meaning.specs.declared.levels.Levels.TheOpen.{Levels-F}

@@ -1,4 +1,4 @@
--- What the references of a list see.
+-- The values that a list of references points to.
 use Rattle.std.specs.Prelude.{List, map}
 use Rattle.std.specs.Borrow.{Bor}
 

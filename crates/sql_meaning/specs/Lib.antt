@@ -1,9 +1,7 @@
-pub mod Gathered
-pub mod Seen
-pub mod Standing
-pub mod Stops
-pub mod Violations
+pub mod Answered
 pub mod Behind
 pub mod Replacing
-pub mod Plan
-pub mod Reached
+pub mod Stops
+pub mod Violations
+pub mod WholeSubqueries
+pub mod inner

@@ -1,7 +1,7 @@
 -- All places at which a database does not meet a schema, in order: by table; then values outside their domains,
 -- NULLs in columns that are NOT NULL, two rows with one key, false CHECKs, and rows whose foreign key refers to
 -- nothing; each by column, key or CHECK, then by row, then by the other row (ISO/IEC 9075:1992, 4.10).
-use Rattle.std.specs.Prelude.{ℕ, suc, Bool, ◌&&◌, ◌||◌, not, nat_lt, List, [], ◌∷◌, ◌++◌, length, map, Option, slice_get}
+use Rattle.std.specs.Prelude.{ℕ, suc, Bool, ◌&&◌, not, nat_lt, List, [], ◌∷◌, ◌++◌, length, map, Option, slice_get}
 use Rattle.std.specs.List.{list_any, filter, flat_map}
 use Rattle.lint_core.specs.declared.condition.Cond.{Cond}
 use Rattle.lint_core.specs.declared.database.Database.{Database}

@@ -12,9 +12,9 @@ ghost use Rattle.lint_core.specs.Naming.{names};
 ghost use Rattle.lint_core.specs.Question.{all_true, are_true_with, table_of};
 ghost use Rattle.lint_core.specs.Truth.{is_true};
 ghost use Rattle.sql_meaning.specs.Behind.{behind};
-ghost use Rattle.sql_meaning.specs.Plan.{are_same_values, none_fits};
-ghost use Rattle.sql_meaning.specs.Seen.{value_of};
-ghost use Rattle.sql_meaning.specs.Standing.{tables_of_levels, binding_of_levels};
+ghost use Rattle.sql_meaning.specs.inner.Plan.{are_same_values, none_fits};
+ghost use Rattle.sql_meaning.specs.inner.Seen.{value_of};
+ghost use Rattle.sql_meaning.specs.inner.Standing.{tables_of_levels, binding_of_levels};
 ghost use Rattle.sql_meaning.specs.Stops.{Gives};
 
 use crate::evaluation::{evaluate, row_count};
@@ -103,7 +103,8 @@ pub(crate) fn are_same_items(
     one: &Binding,
     two: &Binding,
 ) -> bool
-    ensures { result ≡ are_same_values database.now tables.now one.now.levels two.now.levels items.now }
+    ensures { result
+        ≡ are_same_values database.now tables.now one.now.levels two.now.levels items.now }
 {
     for item in items {
         let here = value_at(database, &item.term, tables, one);
@@ -123,7 +124,9 @@ pub(crate) fn item_value<'a>(
     tables: &[Items<u32>],
     binding: &Binding,
 ) -> Seen<'a>
-    ensures { value_of result ≡ option_map_or (λ i. term_value database.now tables.now binding.now.levels i.term) (slice_get items.now item) Null }
+    ensures { value_of result ≡ option_map_or
+        (λ i. term_value database.now tables.now binding.now.levels i.term)
+        (slice_get items.now item) Null }
 {
     match items.get(item as usize) {
         Some(item) => value_at(database, &item.term, tables, binding),
@@ -137,7 +140,9 @@ fn is_true_in(
     cond: &Cond,
     levels: &Levels,
 ) -> Result<bool, TruthStop>
-    ensures { Gives (all_true (truth database.now cond.now (tables_of_levels levels.now) (binding_of_levels levels.now) ∷ [])) result }
+    ensures { Gives (all_true
+        (truth database.now cond.now (tables_of_levels levels.now) (binding_of_levels levels.now)
+        ∷ [])) result }
 {
     match evaluate(alloc, database, cond, levels) {
         Ok(truth) => Ok(is_true(truth)),
@@ -153,7 +158,8 @@ pub(crate) fn is_true_at(
     tables: &[Items<u32>],
     one: &Binding,
 ) -> Result<bool, TruthStop>
-    ensures { Gives (all_true (truth database.now cond.now tables.now one.now.levels ∷ [])) result }
+    ensures { Gives
+        (all_true (truth database.now cond.now tables.now one.now.levels ∷ [])) result }
 {
     let levels = Levels::Given {
         tables,
@@ -171,7 +177,9 @@ pub(crate) fn are_true_at(
     one: &Binding,
     two: &Binding,
 ) -> Result<bool, TruthStop>
-    ensures { Gives (all_true (truth database.now cond.now tables.now one.now.levels ∷ truth database.now cond.now tables.now two.now.levels ∷ [])) result }
+    ensures { Gives (all_true
+        (truth database.now cond.now tables.now one.now.levels
+        ∷ truth database.now cond.now tables.now two.now.levels ∷ [])) result }
 {
     let first = is_true_at(alloc, database, cond, tables, one)?;
     let second = is_true_at(alloc, database, cond, tables, two)?;
@@ -185,7 +193,9 @@ fn all_true_in(
     conds: &[&Cond],
     levels: &Levels,
 ) -> Result<bool, TruthStop>
-    ensures { Gives (all_true (map (λ c. truth database.now c (tables_of_levels levels.now) (binding_of_levels levels.now)) (behind conds.now))) result }
+    ensures { Gives (all_true (map
+        (λ c. truth database.now c (tables_of_levels levels.now) (binding_of_levels levels.now))
+        (behind conds.now))) result }
 {
     let mut all = true;
     for cond in conds {
@@ -204,7 +214,11 @@ fn all_true_inside(
     rows: &[usize],
     outer: &Levels,
 ) -> Result<bool, TruthStop>
-    ensures { Gives (all_true (map (λ c. truth database.now c (tables_of_levels outer.now ++ tables_of entries.now ∷ []) (binding_of_levels outer.now ++ rows.now ∷ [])) (behind conds.now))) result }
+    ensures { Gives (all_true (map
+        (λ c. truth database.now c
+        (tables_of_levels outer.now ++ tables_of entries.now ∷ [])
+        (binding_of_levels outer.now ++ rows.now ∷ []))
+        (behind conds.now))) result }
 {
     let levels = Levels::Inside {
         entries,
@@ -237,7 +251,8 @@ pub(crate) fn not_naming<'a>(
     conds: &[&'a Cond],
     entry: u32,
 ) -> Result<Vec<&'a Cond>, NoMemory>
-    ensures { IfOk result (λ found. behind found.items ≡ filter (λ c. not (names entry c)) (behind conds.now)) }
+    ensures { IfOk result (λ found.
+        behind found.items ≡ filter (λ c. not (names entry c)) (behind conds.now)) }
 {
     let mut found = Vec::new(alloc);
     for cond in conds {
@@ -257,7 +272,8 @@ impl Main<'_> {
         row: usize,
         conds: &[&Cond],
     ) -> Result<bool, TruthStop>
-        ensures { Gives (are_true_with self.now.database.now self.now.query.now entry others.now row (behind conds.now)) result }
+        ensures { Gives (are_true_with self.now.database.now self.now.query.now
+            entry others.now row (behind conds.now)) result }
     {
         let rows = with_row(self.alloc, entry, row, others.levels.as_slice())?;
         let outside = Levels::Given {
@@ -292,7 +308,8 @@ impl Main<'_> {
         others: &Binding,
         conds: &[&Cond],
     ) -> Result<bool, TruthStop>
-        ensures { Gives (none_fits self.now.database.now self.now.query.now entry others.now (behind conds.now)) result }
+        ensures { Gives (none_fits self.now.database.now self.now.query.now
+            entry others.now (behind conds.now)) result }
     {
         let mut some = false;
         for row in 0..row_count(self.database, self.table_of(entry)) {

@@ -21,7 +21,8 @@ fn add_conjuncts<'a>(cond: &'a Cond, found: &mut Vec<&'a Cond>) -> Result<(), No
 
 #[cycle(conjuncts)]
 fn add_each<'a>(parts: &'a [Cond], found: &mut Vec<&'a Cond>) -> Result<(), NoMemory>
-    ensures { OnOk result (behind found.new.items ≡ behind found.old.items ++ flat_map conjuncts parts.now) }
+    ensures { OnOk result
+        (behind found.new.items ≡ behind found.old.items ++ flat_map conjuncts parts.now) }
 {
     for part in parts {
         add_conjuncts(part, found)?;
@@ -29,8 +30,8 @@ fn add_each<'a>(parts: &'a [Cond], found: &mut Vec<&'a Cond>) -> Result<(), NoMe
     Ok(())
 }
 
-/// The conjuncts of a condition, in order: the parts of a conjunction, and the parts of those of them
-/// that are conjunctions; any other condition is one conjunct. `NoMemory` where there is none for the
+/// The conjuncts of a condition, in order: the parts of a conjunction, and the parts of those of
+/// them that are conjunctions; any other condition is one conjunct. `NoMemory` where there is none
 /// list.
 pub fn conjuncts<'a>(alloc: Global, cond: &'a Cond) -> Result<Vec<&'a Cond>, NoMemory>
     ensures { IfOk result (λ found. behind found.items ≡ conjuncts cond.now) }

@@ -59,7 +59,8 @@ fn false_check(
 ) -> Result<Option<Violation>, NoMemory>
     requires few { has_few_rows database.now ≡ true }
     requires checks { length checks.now < 2 ^ 32 }
-    ensures { IfOk result (λ found. found ≡ slice_get (numbered (false_checks database.now table) 0 checks.now) 0) }
+    ensures { IfOk result (λ found.
+        found ≡ slice_get (numbered (false_checks database.now table) 0 checks.now) 0) }
 {
     for (number, check) in checks.iter().enumerate() {
         if let Some(found) = first_false(alloc, database, table, number as u32, check)? {
@@ -94,7 +95,8 @@ fn violation_of_table(
     requires keys { length table.now.keys < 2 ^ 32 }
     requires checks { length table.now.checks < 2 ^ 32 }
     requires foreign { length table.now.foreign < 2 ^ 32 }
-    ensures { IfOk result (λ found. found ≡ slice_get (table_violations database.now number table.now) 0) }
+    ensures { IfOk result (λ found.
+        found ≡ slice_get (table_violations database.now number table.now) 0) }
 {
     let columns = table.columns.as_slice();
     let mut found = outside_a_column(database, number, columns);
@@ -131,10 +133,10 @@ fn violation_of_tables(
     Ok(None)
 }
 
-/// The first place at which a database that fits a schema does not meet it: by table; then values outside
-/// their domains, NULLs in columns that are NOT NULL, two rows with one key, false CHECKs and rows whose
-/// foreign key refers to nothing; each by column, key or CHECK, and then by row. `None` exactly where the
-/// database meets the schema.
+/// The first place at which a database that fits a schema does not meet it: by table; then values
+/// outside their domains, NULLs in columns that are NOT NULL, two rows with one key, false CHECKs
+/// and rows whose foreign key refers to nothing; each by column, key or CHECK, and then by row.
+/// `None` exactly where the database meets the schema.
 #[tactic(auto, using(crate::proofs::ViolationsMet::none_violated))]
 pub fn meets(
     alloc: Global,
@@ -149,8 +151,8 @@ pub fn meets(
     violation_of_tables(alloc, database, schema.tables().as_slice())
 }
 
-/// A database that fits a schema meets it exactly where it has no violation. The function does nothing:
-/// its contract is a law about the definitions.
+/// A database that fits a schema meets it exactly where it has no violation. The function does
+/// nothing: its contract is a law about the definitions.
 pub fn violations_are_failures()
     ensures { (schema : List Table) (database : Database) → database_fits schema database ≡ true
         → is_none (first_violation schema database) ≡ meets schema database }

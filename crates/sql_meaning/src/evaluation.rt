@@ -8,9 +8,9 @@ ghost use Rattle.lint_core.specs.Database.{rows_of};
 ghost use Rattle.lint_core.specs.Evaluation.{map_ok, all_ok};
 ghost use Rattle.lint_core.specs.Fits.{tables_of};
 ghost use Rattle.lint_core.specs.Truth.{not_of, negated_if, least, greatest, and_of, or_of};
-ghost use Rattle.sql_meaning.specs.Gathered.{joined, gathered, gathered_at, answer};
-ghost use Rattle.sql_meaning.specs.Seen.{value_of, values_of};
-ghost use Rattle.sql_meaning.specs.Standing.{tables_of_levels, binding_of_levels};
+ghost use Rattle.sql_meaning.specs.inner.Gathered.{joined, gathered, gathered_at, answer};
+ghost use Rattle.sql_meaning.specs.inner.Seen.{value_of, values_of};
+ghost use Rattle.sql_meaning.specs.inner.Standing.{tables_of_levels, binding_of_levels};
 ghost use Rattle.sql_meaning.specs.Stops.{Gives};
 
 use crate::levels::Levels;
@@ -97,7 +97,15 @@ impl<'a> Search<'a> {
         rows: &[usize],
         mut found: Vec<Seen<'a>>,
     ) -> Result<Vec<Seen<'a>>, TruthStop>
-        ensures { Gives (joined (Ok (values_of found.entry.items)) (gathered_at self.now.database.now self.now.item.now (tables_of_levels self.now.outer.now ++ tables_of (out-Block self.now.block.now).entries ∷ []) (binding_of_levels self.now.outer.now) (truth self.now.database.now (out-Block self.now.block.now).cond) rows.now)) (answer (λ found. values_of found.items) result) }
+        ensures { Gives
+            (joined (Ok (values_of found.entry.items))
+            (gathered_at self.now.database.now self.now.item.now
+            (tables_of_levels self.now.outer.now
+            ++ tables_of (out-Block self.now.block.now).entries ∷ [])
+            (binding_of_levels self.now.outer.now)
+            (truth self.now.database.now (out-Block self.now.block.now).cond)
+            rows.now))
+            (answer (λ found. values_of found.items) result) }
     {
         let levels = Levels::Inside {
             entries: self.block.entries.as_slice(),
@@ -110,8 +118,8 @@ impl<'a> Search<'a> {
         Ok(found)
     }
 
-    /// Adds what is selected at each list of row places that begins with these and has one for each of the
-    /// rest of the entries.
+    /// Adds what is selected at each list of row places that begins with these and has one for
+    /// each of the rest of the entries.
     #[cycle(evaluation)]
     fn visit(
         &self,
@@ -119,7 +127,15 @@ impl<'a> Search<'a> {
         rows: &mut Vec<usize>,
         mut found: Vec<Seen<'a>>,
     ) -> Result<Vec<Seen<'a>>, TruthStop>
-        ensures gives { Gives (joined (Ok (values_of found.entry.items)) (gathered self.now.database.now self.now.item.now (tables_of_levels self.now.outer.now ++ tables_of (out-Block self.now.block.now).entries ∷ []) (binding_of_levels self.now.outer.now) (truth self.now.database.now (out-Block self.now.block.now).cond) rows.old.items (tables_of rest.now))) (answer (λ found. values_of found.items) result) }
+        ensures gives { Gives
+            (joined (Ok (values_of found.entry.items))
+            (gathered self.now.database.now self.now.item.now
+            (tables_of_levels self.now.outer.now
+            ++ tables_of (out-Block self.now.block.now).entries ∷ [])
+            (binding_of_levels self.now.outer.now)
+            (truth self.now.database.now (out-Block self.now.block.now).cond)
+            rows.old.items (tables_of rest.now)))
+            (answer (λ found. values_of found.items) result) }
         ensures rows { OnOk result (rows.new.items ≡ rows.old.items) }
     {
         let Some((entry, others)) = rest.split_first() else {
@@ -153,7 +169,12 @@ fn select<'a>(
     item: &'a Term,
     outer: &'a Levels<'a>,
 ) -> Result<Vec<Seen<'a>>, TruthStop>
-    ensures { Gives (map_ok (items_at database.now item.now) (selected (inner_bindings database.now (tables_of (out-Block block.now).entries) (truth database.now (out-Block block.now).cond) (tables_of_levels outer.now) (binding_of_levels outer.now)))) (answer (λ found. values_of found.items) result) }
+    ensures { Gives
+        (map_ok (items_at database.now item.now) (selected (inner_bindings database.now
+        (tables_of (out-Block block.now).entries)
+        (truth database.now (out-Block block.now).cond)
+        (tables_of_levels outer.now) (binding_of_levels outer.now))))
+        (answer (λ found. values_of found.items) result) }
 {
     let search = Search {
         alloc,
@@ -173,7 +194,10 @@ fn all_of(
     parts: &[Cond],
     levels: &Levels,
 ) -> Result<Truth, TruthStop>
-    ensures { Gives (map_ok and_of (all_ok (map (λ part. truth database.now part (tables_of_levels levels.now) (binding_of_levels levels.now)) parts.now))) result }
+    ensures { Gives (map_ok and_of (all_ok (map
+        (λ part. truth database.now part
+        (tables_of_levels levels.now) (binding_of_levels levels.now))
+        parts.now))) result }
 {
     let mut truth = Truth::True;
     for part in parts {
@@ -189,7 +213,10 @@ fn any_of(
     parts: &[Cond],
     levels: &Levels,
 ) -> Result<Truth, TruthStop>
-    ensures { Gives (map_ok or_of (all_ok (map (λ part. truth database.now part (tables_of_levels levels.now) (binding_of_levels levels.now)) parts.now))) result }
+    ensures { Gives (map_ok or_of (all_ok (map
+        (λ part. truth database.now part
+        (tables_of_levels levels.now) (binding_of_levels levels.now))
+        parts.now))) result }
 {
     let mut truth = Truth::False;
     for part in parts {
@@ -206,7 +233,10 @@ fn exists(
     block: &Block,
     levels: &Levels,
 ) -> Result<Truth, TruthStop>
-    ensures { Gives (map_ok exists_truth (selected (inner_bindings database.now (tables_of (out-Block block.now).entries) (truth database.now (out-Block block.now).cond) (tables_of_levels levels.now) (binding_of_levels levels.now)))) result }
+    ensures { Gives (map_ok exists_truth (selected (inner_bindings database.now
+        (tables_of (out-Block block.now).entries)
+        (truth database.now (out-Block block.now).cond)
+        (tables_of_levels levels.now) (binding_of_levels levels.now)))) result }
 {
     let item = Term::Null;
     let found = select(alloc, &*database, &*block, &item, &*levels)?;
@@ -221,7 +251,9 @@ pub(crate) fn evaluate(
     cond: &Cond,
     levels: &Levels,
 ) -> Result<Truth, TruthStop>
-    ensures { Gives (truth database.now cond.now (tables_of_levels levels.now) (binding_of_levels levels.now)) result }
+    ensures { Gives
+        (truth database.now cond.now (tables_of_levels levels.now) (binding_of_levels levels.now))
+        result }
 {
     match cond {
         Cond::True => Ok(Truth::True),
@@ -272,9 +304,10 @@ pub(crate) fn evaluate(
 /// The truth of a condition at a binding, whose row places are of these tables, level by level
 /// (ISO/IEC 9075:1992, 8.12). A cell that is not there is NULL.
 ///
-/// `TwoRows` comes where a scalar subquery of the condition gives two rows, also where another part alone would
-/// decide: it has the place of the first such subquery in the order of evaluation, which takes the parts from
-/// left to right, and the inner bindings in their order. `NoMemory` may come instead of either.
+/// `TwoRows` comes where a scalar subquery of the condition gives two rows, also where another
+/// part alone would decide: it has the place of the first such subquery in the order of
+/// evaluation, which takes the parts from left to right, and the inner bindings in their order.
+/// `NoMemory` may come instead of either.
 pub fn truth(
     alloc: Global,
     _schema: &Schema,

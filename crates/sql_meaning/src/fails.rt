@@ -4,8 +4,8 @@ ghost use Rattle.lint_core.specs.declared.database.Value.{Value};
 ghost use Rattle.lint_core.specs.declared.query.Question.TheVariants.{OneRow, Empty, NeedlessDistinct, Constant, Duplicate, NeedlessJoin, Implied, Impossible, SameRow, NullInNotIn};
 ghost use Rattle.lint_core.specs.Fits.{main_tables};
 ghost use Rattle.lint_core.specs.Question.{outcome};
-ghost use Rattle.sql_meaning.specs.Plan.{at_one, at_two, at_replaced, at_rest, at_inner_one, at_inner_two};
-ghost use Rattle.sql_meaning.specs.Reached.{subquery_of};
+ghost use Rattle.sql_meaning.specs.inner.Plan.{at_one, at_two, at_replaced, at_rest, at_inner_one, at_inner_two};
+ghost use Rattle.sql_meaning.specs.Answered.{subquery_of};
 ghost use Rattle.sql_meaning.specs.Replacing.{constant};
 ghost use Rattle.sql_meaning.specs.Stops.{Gives};
 
@@ -47,7 +47,9 @@ impl Main<'_> {
         two: &Binding,
     ) -> Result<bool, TruthStop>
         requires { self.now.tables.now ≡ main_tables self.now.query.now }
-        ensures { Gives (at_two self.now.database.now self.now.query.now differ fact one.now two.now) result }
+        ensures { Gives
+            (at_two self.now.database.now self.now.query.now differ fact one.now two.now)
+            result }
     {
         let is_first = is_binding(self.database, self.tables, one.levels.as_slice());
         let is_second = is_binding(self.database, self.tables, two.levels.as_slice());
@@ -59,10 +61,12 @@ impl Main<'_> {
         Ok(both && fact)
     }
 
-    /// At a binding at which WHERE is true, but not with the predicate replaced, or the other way round.
+    /// At a binding at which WHERE is true, but not with the predicate replaced, or the other way
+    /// round.
     fn at_replaced(&self, by: bool, predicate: u32, one: &Binding) -> Result<bool, TruthStop>
         requires { self.now.tables.now ≡ main_tables self.now.query.now }
-        ensures { Gives (at_replaced self.now.database.now self.now.query.now (constant by) predicate one.now) result }
+        ensures { Gives (at_replaced self.now.database.now self.now.query.now
+            (constant by) predicate one.now) result }
     {
         if !is_binding(self.database, self.tables, one.levels.as_slice()) {
             return Ok(false);
@@ -104,7 +108,8 @@ impl Main<'_> {
 
     /// At two bindings of a subquery at which its condition is true.
     fn at_inner_two(&self, sub: &Subquery, one: &Binding, two: &Binding) -> Result<bool, TruthStop>
-        ensures { Gives (at_inner_two self.now.database.now self.now.query.now (subquery_of sub.now) one.now two.now) result }
+        ensures { Gives (at_inner_two self.now.database.now self.now.query.now
+            (subquery_of sub.now) one.now two.now) result }
     {
         let tables = sub.tables.as_slice();
         let is_first = is_binding(self.database, tables, one.levels.as_slice());
@@ -118,7 +123,8 @@ impl Main<'_> {
 
     /// At a binding of a subquery at which its condition is true, with a fact.
     fn at_inner_one(&self, sub: &Subquery, fact: bool, one: &Binding) -> Result<bool, TruthStop>
-        ensures { Gives (at_inner_one self.now.database.now self.now.query.now (subquery_of sub.now) fact one.now) result }
+        ensures { Gives (at_inner_one self.now.database.now self.now.query.now
+            (subquery_of sub.now) fact one.now) result }
     {
         let tables = sub.tables.as_slice();
         if !is_binding(self.database, tables, one.levels.as_slice()) {
@@ -133,7 +139,9 @@ impl Main<'_> {
 impl Main<'_> {
     fn fails_one_row(&self, sub: u32, points: &Points) -> Result<bool, TruthStop>
         requires { self.now.tables.now ≡ main_tables self.now.query.now }
-        ensures { (given : Value) → Gives (outcome self.now.database.now self.now.query.now (OneRow sub) given points.now) result }
+        ensures { (given : Value)
+            → Gives (outcome self.now.database.now self.now.query.now
+            (OneRow sub) given points.now) result }
     {
         match points {
             Points::Two(one, two) => {
@@ -149,7 +157,9 @@ impl Main<'_> {
 
     fn fails_empty(&self, points: &Points) -> Result<bool, TruthStop>
         requires { self.now.tables.now ≡ main_tables self.now.query.now }
-        ensures { (given : Value) → Gives (outcome self.now.database.now self.now.query.now Empty given points.now) result }
+        ensures { (given : Value)
+            → Gives (outcome self.now.database.now self.now.query.now Empty given points.now)
+            result }
     {
         match points {
             Points::One(one) => self.at_one(true, one),
@@ -159,7 +169,9 @@ impl Main<'_> {
 
     fn fails_needless_distinct(&self, points: &Points) -> Result<bool, TruthStop>
         requires { self.now.tables.now ≡ main_tables self.now.query.now }
-        ensures { (given : Value) → Gives (outcome self.now.database.now self.now.query.now NeedlessDistinct given points.now) result }
+        ensures { (given : Value)
+            → Gives (outcome self.now.database.now self.now.query.now
+            NeedlessDistinct given points.now) result }
     {
         match points {
             Points::Two(one, two) => {
@@ -174,7 +186,8 @@ impl Main<'_> {
 
     fn fails_constant(&self, item: u32, given: &Value, points: &Points) -> Result<bool, TruthStop>
         requires { self.now.tables.now ≡ main_tables self.now.query.now }
-        ensures { Gives (outcome self.now.database.now self.now.query.now (Constant item) given.now points.now) result }
+        ensures { Gives (outcome self.now.database.now self.now.query.now
+            (Constant item) given.now points.now) result }
     {
         match points {
             Points::One(one) => {
@@ -188,7 +201,9 @@ impl Main<'_> {
 
     fn fails_duplicate(&self, item: u32, other: u32, points: &Points) -> Result<bool, TruthStop>
         requires { self.now.tables.now ≡ main_tables self.now.query.now }
-        ensures { (given : Value) → Gives (outcome self.now.database.now self.now.query.now (Duplicate item other) given points.now) result }
+        ensures { (given : Value)
+            → Gives (outcome self.now.database.now self.now.query.now
+            (Duplicate item other) given points.now) result }
     {
         match points {
             Points::One(one) => {
@@ -203,7 +218,9 @@ impl Main<'_> {
 
     fn fails_needless_join(&self, entry: u32, points: &Points) -> Result<bool, TruthStop>
         requires { self.now.tables.now ≡ main_tables self.now.query.now }
-        ensures { (given : Value) → Gives (outcome self.now.database.now self.now.query.now (NeedlessJoin entry) given points.now) result }
+        ensures { (given : Value)
+            → Gives (outcome self.now.database.now self.now.query.now
+            (NeedlessJoin entry) given points.now) result }
     {
         match points {
             Points::Two(one, two) => {
@@ -217,7 +234,9 @@ impl Main<'_> {
 
     fn fails_implied(&self, predicate: u32, points: &Points) -> Result<bool, TruthStop>
         requires { self.now.tables.now ≡ main_tables self.now.query.now }
-        ensures { (given : Value) → Gives (outcome self.now.database.now self.now.query.now (Implied predicate) given points.now) result }
+        ensures { (given : Value)
+            → Gives (outcome self.now.database.now self.now.query.now
+            (Implied predicate) given points.now) result }
     {
         match points {
             Points::One(one) => self.at_replaced(true, predicate, one),
@@ -227,7 +246,9 @@ impl Main<'_> {
 
     fn fails_impossible(&self, predicate: u32, points: &Points) -> Result<bool, TruthStop>
         requires { self.now.tables.now ≡ main_tables self.now.query.now }
-        ensures { (given : Value) → Gives (outcome self.now.database.now self.now.query.now (Impossible predicate) given points.now) result }
+        ensures { (given : Value)
+            → Gives (outcome self.now.database.now self.now.query.now
+            (Impossible predicate) given points.now) result }
     {
         match points {
             Points::One(one) => self.at_replaced(false, predicate, one),
@@ -237,7 +258,9 @@ impl Main<'_> {
 
     fn fails_same_row(&self, entry: u32, other: u32, points: &Points) -> Result<bool, TruthStop>
         requires { self.now.tables.now ≡ main_tables self.now.query.now }
-        ensures { (given : Value) → Gives (outcome self.now.database.now self.now.query.now (SameRow entry other) given points.now) result }
+        ensures { (given : Value)
+            → Gives (outcome self.now.database.now self.now.query.now
+            (SameRow entry other) given points.now) result }
     {
         match points {
             Points::One(one) => {
@@ -250,7 +273,9 @@ impl Main<'_> {
 
     fn fails_null_in_not_in(&self, sub: u32, points: &Points) -> Result<bool, TruthStop>
         requires { self.now.tables.now ≡ main_tables self.now.query.now }
-        ensures { (given : Value) → Gives (outcome self.now.database.now self.now.query.now (NullInNotIn sub) given points.now) result }
+        ensures { (given : Value)
+            → Gives (outcome self.now.database.now self.now.query.now
+            (NullInNotIn sub) given points.now) result }
     {
         match points {
             Points::One(one) => {
@@ -269,13 +294,14 @@ impl Main<'_> {
     }
 }
 
-/// Whether the points refute the question: they have its form, name rows that are there, and what refutes the
-/// question is true there. `given` is the value of a constant column; the other questions do not look at it. The
-/// schema is not looked at, and the question need not be asked of the query.
+/// Whether the points refute the question: they have its form, name rows that are there, and what
+/// refutes the question is true there. `given` is the value of a constant column; the other
+/// questions do not look at it. The schema is not looked at, and the question need not be asked of
+/// the query.
 ///
-/// `TwoRows` comes where the points have the question's form and a scalar subquery of a condition that is named
-/// there gives two rows, also where another part would decide: it has the place of the first in the order of
-/// evaluation. `NoMemory` may come instead of any answer.
+/// `TwoRows` comes where the points have the question's form and a scalar subquery of a condition
+/// that is named there gives two rows, also where another part would decide: it has the place of
+/// the first in the order of evaluation. `NoMemory` may come instead of any answer.
 pub fn fails_at(
     alloc: Global,
     _schema: &Schema,

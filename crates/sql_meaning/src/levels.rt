@@ -2,7 +2,7 @@
 ghost use Rattle.std.specs.Prelude.{◌≡◌, ◌<◌, ◌+◌, length, IfOk, IfErr, slice_get};
 ghost use Rattle.lint_core.specs.Fits.{at_entry};
 ghost use Rattle.lint_core.specs.Fits.{tables_of};
-ghost use Rattle.sql_meaning.specs.Standing.{tables_of_levels, binding_of_levels};
+ghost use Rattle.sql_meaning.specs.inner.Standing.{tables_of_levels, binding_of_levels};
 
 use lint_base::Items;
 use lint_core::{Entry, number_at};
@@ -25,7 +25,8 @@ pub(crate) enum Levels<'a> {
 
 /// The row place of an entry of a level, as `number_at`.
 fn row_in(levels: &[Items<u32>], level: u32, entry: u32) -> Result<Option<usize>, usize>
-    ensures there { IfOk result (λ found. (level < length levels.now) × (found ≡ at_entry levels.now level entry)) }
+    ensures there { IfOk result (λ found.
+        (level < length levels.now) × (found ≡ at_entry levels.now level entry)) }
     ensures further { IfErr result (λ more. more + length levels.now ≡ level) }
 {
     match number_at(levels, level, entry) {
@@ -46,8 +47,11 @@ fn row_of(rows: &[usize], entry: u32) -> Option<usize>
 
 impl Levels<'_> {
     fn look_up_table(&self, level: u32, entry: u32) -> Result<Option<u32>, usize>
-        ensures there { IfOk result (λ found. (level < length (tables_of_levels self.now)) × (found ≡ at_entry (tables_of_levels self.now) level entry)) }
-        ensures further { IfErr result (λ more. more + length (tables_of_levels self.now) ≡ level) }
+        ensures there { IfOk result (λ found.
+            (level < length (tables_of_levels self.now))
+            × (found ≡ at_entry (tables_of_levels self.now) level entry)) }
+        ensures further { IfErr result (λ more.
+            more + length (tables_of_levels self.now) ≡ level) }
     {
         match self {
             Levels::Given { tables, .. } => number_at(tables, level, entry),
@@ -60,8 +64,11 @@ impl Levels<'_> {
     }
 
     fn look_up_row(&self, level: u32, entry: u32) -> Result<Option<usize>, usize>
-        ensures there { IfOk result (λ found. (level < length (binding_of_levels self.now)) × (found ≡ at_entry (binding_of_levels self.now) level entry)) }
-        ensures further { IfErr result (λ more. more + length (binding_of_levels self.now) ≡ level) }
+        ensures there { IfOk result (λ found.
+            (level < length (binding_of_levels self.now))
+            × (found ≡ at_entry (binding_of_levels self.now) level entry)) }
+        ensures further { IfErr result (λ more.
+            more + length (binding_of_levels self.now) ≡ level) }
     {
         match self {
             Levels::Given { rows, .. } => row_in(rows, level, entry),

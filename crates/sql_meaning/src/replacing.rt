@@ -3,7 +3,8 @@ ghost use Rattle.std.specs.Prelude.{◌≡◌, length, suc, IfOk, OnOk, Some};
 ghost use Rattle.std.specs.List.{flat_map};
 ghost use Rattle.lint_core.specs.declared.condition.Block.{out-Block};
 ghost use Rattle.lint_core.specs.Predicates.{predicates, with_replaced};
-ghost use Rattle.sql_meaning.specs.Replacing.{constant, is_zero, after, replaced_at, parts_at, alone_at, around_at};
+ghost use Rattle.sql_meaning.specs.Replacing.{constant};
+ghost use Rattle.sql_meaning.specs.inner.ReplacedParts.{is_zero, after, replaced_at, parts_at, alone_at, around_at};
 
 use lint_base::{Items, NoMemory};
 use lint_core::{Block, Cond, Entry};
@@ -63,8 +64,8 @@ fn replace_alone(
     cond.copy(alloc)
 }
 
-/// The condition with the predicate of the number replaced, where there is a number. It takes from the
-/// number how many predicates there are, and there is none behind the one that is replaced.
+/// The condition with the predicate of the number replaced, where there is a number. It takes from
+/// the number how many predicates there are, and there is none behind the one that is replaced.
 #[cycle(replaced)]
 fn replace(alloc: Global, cond: &Cond, left: &mut Option<u32>, by: bool) -> Result<Cond, NoMemory>
     ensures cond { IfOk result (λ c. c ≡ replaced_at (constant by) left.old cond.now) }
@@ -121,7 +122,8 @@ fn replace_each(
     by: bool,
 ) -> Result<Items<Cond>, NoMemory>
     ensures parts { IfOk result (λ cs. cs ≡ parts_at (constant by) left.old parts.now) }
-    ensures left { OnOk result (left.new ≡ after left.old (length (flat_map predicates parts.now))) }
+    ensures left { OnOk result
+        (left.new ≡ after left.old (length (flat_map predicates parts.now))) }
 {
     let mut copies = Items::new(alloc);
     for part in parts {
@@ -130,8 +132,8 @@ fn replace_each(
     Ok(copies)
 }
 
-/// The block of a predicate, with the predicate of the number replaced in its condition. `None` where it
-/// is the predicate around the block that is replaced.
+/// The block of a predicate, with the predicate of the number replaced in its condition. `None`
+/// where it is the predicate around the block that is replaced.
 #[cycle(replaced)]
 fn replace_around(
     alloc: Global,
@@ -140,7 +142,8 @@ fn replace_around(
     by: bool,
 ) -> Result<Option<Boxed<Block>>, NoMemory>
     ensures block { IfOk result (λ b. b ≡ around_at (constant by) left.old block.now) }
-    ensures left { OnOk result (left.new ≡ after left.old (suc (length (predicates (out-Block block.now).cond)))) }
+    ensures left { OnOk result
+        (left.new ≡ after left.old (suc (length (predicates (out-Block block.now).cond)))) }
 {
     if is_next(left) {
         return Ok(None);
@@ -158,9 +161,9 @@ fn replace_around(
     }
 }
 
-/// The condition with the predicate of this number replaced by TRUE or FALSE. Predicates count from 0 in
-/// the order of the text, those in the subqueries of EXISTS and IN behind the predicate around them; where
-/// there are too few, it is a copy. `NoMemory` where there is none for it.
+/// The condition with the predicate of this number replaced by TRUE or FALSE. Predicates count
+/// from 0 in the order of the text, those in the subqueries of EXISTS and IN behind the predicate
+/// around them; where there are too few, it is a copy. `NoMemory` where there is none for it.
 pub fn replaced(alloc: Global, cond: &Cond, predicate: u32, by: bool) -> Result<Cond, NoMemory>
     ensures { IfOk result (λ c. c ≡ with_replaced (constant by) predicate cond.now) }
 {

@@ -1,11 +1,14 @@
 //! The scalar subqueries and the NOT IN subqueries of a condition, by their numbers.
-ghost use Rattle.std.specs.Prelude.{◌≡◌, ◌++◌, ◌∷◌, [], IfOk, Ok, slice_get, option_map};
+ghost use Rattle.std.specs.Prelude.{ℕ, List, map, ◌≡◌, ◌++◌, ◌∷◌, [], IfOk, Ok, slice_get, option_map};
 ghost use Rattle.std.specs.Result.{result_ok};
 ghost use Rattle.std.specs.List.{flat_map};
 ghost use Rattle.lint_core.specs.declared.condition.Block.{out-Block};
+ghost use Rattle.lint_core.specs.declared.condition.Cond.{Cond as Condition};
 ghost use Rattle.lint_core.specs.Fits.{tables_of};
-ghost use Rattle.lint_core.specs.Subqueries.{subquery, is_column, scalar_subqueries, not_in_subqueries};
-ghost use Rattle.sql_meaning.specs.Reached.{subquery_of, reached, item_at};
+ghost use Rattle.lint_core.specs.Subqueries.{is_column, scalar_subqueries, not_in_subqueries};
+ghost use Rattle.sql_meaning.specs.Answered.{whole_of, subquery_of};
+ghost use Rattle.sql_meaning.specs.WholeSubqueries.{whole, whole_scalars, whole_not_ins, without_entries};
+ghost use Rattle.sql_meaning.specs.inner.Reached.{reached, item_at};
 
 use lint_base::{Items, NoMemory, Span};
 use lint_core::{Block, Cond, Entry, Term};
@@ -19,8 +22,8 @@ pub struct Subquery<'a> {
     pub block: &'a Block,
     /// What it selects.
     pub item: &'a Term,
-    /// The place of a scalar subquery; of NOT IN that of the predicate.
-    pub span: Span,
+    /// That of a scalar subquery, from ( to ); of NOT IN that of the predicate.
+    pub place: Span,
 }
 
 /// Where a search ends: at a subquery, or with so much left of the number.
@@ -71,15 +74,16 @@ fn found<'a>(
     tables: &[Items<u32>],
     block: &'a Block,
     item: &'a Term,
-    span: Span,
+    place: Span,
 ) -> Result<Search<'a>, NoMemory>
-    ensures { IfOk result (λ search. reached search ≡ Ok (subquery tables.now block.now item.now span)) }
+    ensures { IfOk result (λ search.
+        reached search ≡ Ok (whole tables.now block.now item.now place)) }
 {
     Ok(Search::Found(Subquery {
         tables: tables_inside(alloc, tables, block.entries.as_slice())?,
         block,
         item,
-        span,
+        place,
     }))
 }
 
@@ -90,7 +94,8 @@ fn seek_scalar<'a>(
     tables: &[Items<u32>],
     number: u32,
 ) -> Result<Search<'a>, NoMemory>
-    ensures { IfOk result (λ search. reached search ≡ item_at (scalar_subqueries cond.now tables.now) number) }
+    ensures { IfOk result (λ search.
+        reached search ≡ item_at (whole_scalars cond.now tables.now) number) }
 {
     match cond {
         Cond::True => Ok(Search::Left(number)),
@@ -120,7 +125,9 @@ fn seek_scalar_in_each<'a>(
     tables: &[Items<u32>],
     number: u32,
 ) -> Result<Search<'a>, NoMemory>
-    ensures { IfOk result (λ search. reached search ≡ item_at (flat_map (λ part. scalar_subqueries part tables.now) parts.now) number) }
+    ensures { IfOk result (λ search.
+        reached search
+        ≡ item_at (flat_map (λ part. whole_scalars part tables.now) parts.now) number) }
 {
     let mut left = number;
     for part in parts {
@@ -140,7 +147,9 @@ fn seek_scalar_inside<'a>(
     tables: &[Items<u32>],
     number: u32,
 ) -> Result<Search<'a>, NoMemory>
-    ensures { IfOk result (λ search. reached search ≡ item_at (scalar_subqueries (out-Block block.now).cond (tables.now ++ tables_of (out-Block block.now).entries ∷ [])) number) }
+    ensures { let inside = tables.now ++ tables_of (out-Block block.now).entries ∷ [] in
+        IfOk result (λ search.
+        reached search ≡ item_at (whole_scalars (out-Block block.now).cond inside) number) }
 {
     let inside = tables_inside(alloc, tables, block.entries.as_slice())?;
     seek_scalar(alloc, &block.cond, inside.as_slice(), number)
@@ -159,7 +168,8 @@ fn seek_not_in<'a>(
     tables: &[Items<u32>],
     number: u32,
 ) -> Result<Search<'a>, NoMemory>
-    ensures { IfOk result (λ search. reached search ≡ item_at (not_in_subqueries cond.now tables.now) number) }
+    ensures { IfOk result (λ search.
+        reached search ≡ item_at (whole_not_ins cond.now tables.now) number) }
 {
     match cond {
         Cond::True => Ok(Search::Left(number)),
@@ -196,7 +206,9 @@ fn seek_not_in_each<'a>(
     tables: &[Items<u32>],
     number: u32,
 ) -> Result<Search<'a>, NoMemory>
-    ensures { IfOk result (λ search. reached search ≡ item_at (flat_map (λ part. not_in_subqueries part tables.now) parts.now) number) }
+    ensures { IfOk result (λ search.
+        reached search
+        ≡ item_at (flat_map (λ part. whole_not_ins part tables.now) parts.now) number) }
 {
     let mut left = number;
     for part in parts {
@@ -216,7 +228,9 @@ fn seek_not_in_inside<'a>(
     tables: &[Items<u32>],
     number: u32,
 ) -> Result<Search<'a>, NoMemory>
-    ensures { IfOk result (λ search. reached search ≡ item_at (not_in_subqueries (out-Block block.now).cond (tables.now ++ tables_of (out-Block block.now).entries ∷ [])) number) }
+    ensures { let inside = tables.now ++ tables_of (out-Block block.now).entries ∷ [] in
+        IfOk result (λ search.
+        reached search ≡ item_at (whole_not_ins (out-Block block.now).cond inside) number) }
 {
     let inside = tables_inside(alloc, tables, block.entries.as_slice())?;
     seek_not_in(alloc, &block.cond, inside.as_slice(), number)
@@ -224,7 +238,7 @@ fn seek_not_in_inside<'a>(
 
 impl<'a> Search<'a> {
     fn subquery(self) -> Option<Subquery<'a>>
-        ensures { option_map subquery_of result ≡ result_ok (reached self.entry) }
+        ensures { option_map whole_of result ≡ result_ok (reached self.entry) }
     {
         match self {
             Search::Found(subquery) => Some(subquery),
@@ -233,16 +247,19 @@ impl<'a> Search<'a> {
     }
 }
 
-/// The scalar subquery of this number in a condition that stands in levels with these tables. They count
-/// from 0 in the order of their right parentheses, those in other subqueries too. `NoMemory` where there
-/// is none for the tables.
+/// The scalar subquery of this number in a condition that stands in levels with these tables.
+/// They count from 0 in the order of their right parentheses, those in other subqueries too.
+/// `NoMemory` where there is none for the tables.
 pub fn scalar_subquery<'a>(
     alloc: Global,
     cond: &'a Cond,
     tables: &[Items<u32>],
     number: u32,
 ) -> Result<Option<Subquery<'a>>, NoMemory>
-    ensures { IfOk result (λ found. option_map subquery_of found ≡ slice_get (scalar_subqueries cond.now tables.now) number) }
+    ensures whole { IfOk result (λ found.
+        option_map whole_of found ≡ slice_get (whole_scalars cond.now tables.now) number) }
+    ensures listed { IfOk result (λ found.
+        option_map subquery_of found ≡ slice_get (scalar_subqueries cond.now tables.now) number) }
 {
     match seek_scalar(alloc, cond, tables, number) {
         Ok(search) => Ok(search.subquery()),
@@ -250,19 +267,31 @@ pub fn scalar_subquery<'a>(
     }
 }
 
-/// The NOT IN subquery of this number, of those that select a column, in a condition that stands in levels
-/// with these tables. They count from 0 in the order of their left parentheses, those in other subqueries
-/// too. `NoMemory` where there is none for the tables.
+/// The NOT IN subquery of this number, of those that select a column, in a condition that stands
+/// in levels with these tables. They count from 0 in the order of their left parentheses, those in
+/// other subqueries too. `NoMemory` where there is none for the tables.
 pub fn not_in_subquery<'a>(
     alloc: Global,
     cond: &'a Cond,
     tables: &[Items<u32>],
     number: u32,
 ) -> Result<Option<Subquery<'a>>, NoMemory>
-    ensures { IfOk result (λ found. option_map subquery_of found ≡ slice_get (not_in_subqueries cond.now tables.now) number) }
+    ensures whole { IfOk result (λ found.
+        option_map whole_of found ≡ slice_get (whole_not_ins cond.now tables.now) number) }
+    ensures listed { IfOk result (λ found.
+        option_map subquery_of found ≡ slice_get (not_in_subqueries cond.now tables.now) number) }
 {
     match seek_not_in(alloc, cond, tables, number) {
         Ok(search) => Ok(search.subquery()),
         Err(error) => Err(error),
     }
 }
+
+/// The subqueries with their whole blocks are, without the entries of the blocks, those that
+/// lint_core lists. The function does nothing: its contract is a law about the definitions.
+pub fn whole_subqueries_are_listed()
+    ensures scalars { (cond : Condition) (tables : List (List ℕ))
+        → map without_entries (whole_scalars cond tables) ≡ scalar_subqueries cond tables }
+    ensures not_ins { (cond : Condition) (tables : List (List ℕ))
+        → map without_entries (whole_not_ins cond tables) ≡ not_in_subqueries cond tables }
+{}

@@ -6,8 +6,8 @@ ghost use Rattle.lint_core.specs.Condition.{cell_value, term_value};
 ghost use Rattle.lint_core.specs.Database.{value_at};
 ghost use Rattle.lint_core.specs.Truth.{truth_of};
 ghost use Rattle.lint_core.specs.declared.database.Value.TheVariants.{Null};
-ghost use Rattle.sql_meaning.specs.Seen.{value_of, value_in};
-ghost use Rattle.sql_meaning.specs.Standing.{tables_of_levels, binding_of_levels};
+ghost use Rattle.sql_meaning.specs.inner.Seen.{value_of, value_in};
+ghost use Rattle.sql_meaning.specs.inner.Standing.{tables_of_levels, binding_of_levels};
 
 use crate::levels::Levels;
 use lint_base::Str;
@@ -99,7 +99,9 @@ fn cell<'a>(
     entry: u32,
     column: u32,
 ) -> Option<&'a Value>
-    ensures { value_in result ≡ cell_value database.now (tables_of_levels levels.now) (binding_of_levels levels.now) level entry column }
+    ensures { value_in result
+        ≡ cell_value database.now (tables_of_levels levels.now) (binding_of_levels levels.now)
+        level entry column }
 {
     let table = levels.table_at(level, entry)?;
     let row = levels.row_at(level, entry)?;
@@ -113,7 +115,9 @@ fn cell<'a>(
 
 /// The value of a term at a binding.
 pub(crate) fn term_value<'a>(database: &'a Database, term: &'a Term, levels: &Levels) -> Seen<'a>
-    ensures { value_of result ≡ term_value database.now (tables_of_levels levels.now) (binding_of_levels levels.now) term.now }
+    ensures { value_of result
+        ≡ term_value database.now (tables_of_levels levels.now) (binding_of_levels levels.now)
+        term.now }
 {
     match term {
         Term::Cell {

@@ -37,8 +37,10 @@ fn row_count(database: &Database, table: u32) -> u32
 
 /// The value of a column in a row, if it is there.
 fn value_at<'d>(database: &'d Database, spot: Spot, column: u32) -> Option<&'d Value>
-    ensures some { IfSome result (λ value. value_in database.now (place database.now spot.table spot.row) column ≡ value.now) }
-    ensures none { IfNone result (value_in database.now (place database.now spot.table spot.row) column ≡ Null) }
+    ensures some { IfSome result (λ value.
+        value_in database.now (place database.now spot.table spot.row) column ≡ value.now) }
+    ensures none { IfNone result
+        (value_in database.now (place database.now spot.table spot.row) column ≡ Null) }
 {
     let Some(rows) = database.tables.as_slice().get(spot.table as usize) else {
         return None;
@@ -50,7 +52,8 @@ fn value_at<'d>(database: &'d Database, spot: Spot, column: u32) -> Option<&'d V
 }
 
 fn is_null_at(database: &Database, spot: Spot, column: u32) -> bool
-    ensures { result ≡ is_null (value_in database.now (place database.now spot.table spot.row) column) }
+    ensures { result
+        ≡ is_null (value_in database.now (place database.now spot.table spot.row) column) }
 {
     matches!(value_at(database, spot, column), None | Some(Value::Null))
 }
@@ -78,7 +81,9 @@ fn are_equal_at(
     other: Spot,
     other_column: u32,
 ) -> bool
-    ensures { result ≡ are_equal (value_in database.now (place database.now spot.table spot.row) column) (value_in database.now (place database.now other.table other.row) other_column) }
+    ensures { result ≡ are_equal
+        (value_in database.now (place database.now spot.table spot.row) column)
+        (value_in database.now (place database.now other.table other.row) other_column) }
 {
     match (
         value_at(database, spot, column),
@@ -96,7 +101,11 @@ fn pairs_agree(
     other: Spot,
     others: &[u32],
 ) -> bool
-    ensures { result ≡ list_all (λ pair. are_equal (value_in database.now (place database.now spot.table spot.row) pair.0) (value_in database.now (place database.now other.table other.row) pair.1)) (zip columns.now others.now) }
+    ensures { result ≡ list_all
+        (λ pair. are_equal
+        (value_in database.now (place database.now spot.table spot.row) pair.0)
+        (value_in database.now (place database.now other.table other.row) pair.1))
+        (zip columns.now others.now) }
 {
     columns.iter().zip(others).all(|(column, other_column)| are_equal_at(
         database,
@@ -110,7 +119,9 @@ fn pairs_agree(
 /// Whether two rows have equal values, and so no NULL, in each pair of columns.
 #[tactic(auto, using(crate::proofs::ViolationsFound::agree_paired))]
 fn agree(database: &Database, spot: Spot, columns: &[u32], other: Spot, others: &[u32]) -> bool
-    ensures { result ≡ agree database.now (place database.now spot.table spot.row) columns.now (place database.now other.table other.row) others.now }
+    ensures { result ≡ agree database.now
+        (place database.now spot.table spot.row) columns.now
+        (place database.now other.table other.row) others.now }
 {
     columns.len() == others.len() && pairs_agree(database, spot, columns, other, others)
 }
@@ -133,7 +144,9 @@ fn is_in_domain(domain: Domain, value: &Value) -> bool
 }
 
 fn is_in_domain_at(database: &Database, domain: Domain, spot: Spot, column: u32) -> bool
-    ensures { result ≡ is_in_domain domain (value_in database.now (place database.now spot.table spot.row) column) }
+    ensures { result
+        ≡ is_in_domain domain
+        (value_in database.now (place database.now spot.table spot.row) column) }
 {
     match value_at(database, spot, column) {
         Some(value) => is_in_domain(domain, value),
@@ -203,7 +216,8 @@ fn is_twin(database: &Database, table: u32, key: &Key, row: u32, other: u32) -> 
 /// The first later row that agrees with a row in the key's columns.
 fn twin_of(database: &Database, table: u32, key: &Key, row: u32) -> Option<u32>
     requires { has_few_rows database.now ≡ true }
-    ensures { result ≡ slice_get (filter (is_twin database.now table key.now row) (row_numbers database.now table)) 0 }
+    ensures { result ≡ slice_get
+        (filter (is_twin database.now table key.now row) (row_numbers database.now table)) 0 }
 {
     for other in 0..row_count(database, table) {
         if is_twin(database, table, key, row, other) {
@@ -242,8 +256,8 @@ fn alone(alloc: Global, number: u32) -> Result<Items<u32>, NoMemory>
     Ok(Items::from_vec(Vec::from_slice(alloc, &[number])?))
 }
 
-/// Whether a CHECK is false at a row. It has no truth where a scalar subquery gives two rows, and is then not
-/// false.
+/// Whether a CHECK is false at a row. It has no truth where a scalar subquery gives two rows, and
+/// is then not false.
 #[tactic(auto, using(crate::proofs::Standing::tables_given, crate::proofs::Standing::binding_given))]
 fn is_false_at(
     alloc: Global,
@@ -252,7 +266,8 @@ fn is_false_at(
     table: u32,
     row: u32,
 ) -> Result<bool, NoMemory>
-    ensures { IfOk result (λ is. is ≡ is_false_at database.now check.now ((table ∷ []) ∷ []) ((row ∷ []) ∷ [])) }
+    ensures { IfOk result (λ is.
+        is ≡ is_false_at database.now check.now ((table ∷ []) ∷ []) ((row ∷ []) ∷ [])) }
 {
     let tables = [alone(alloc, table)?];
     let rows = [alone(alloc, row)?];
@@ -276,7 +291,8 @@ pub(crate) fn first_false(
     check: &Cond,
 ) -> Result<Option<Violation>, NoMemory>
     requires { has_few_rows database.now ≡ true }
-    ensures { IfOk result (λ found. found ≡ slice_get (false_checks database.now table number check.now) 0) }
+    ensures { IfOk result (λ found.
+        found ≡ slice_get (false_checks database.now table number check.now) 0) }
 {
     for row in 0..row_count(database, table) {
         if is_false_at(alloc, database, check, table, row)? {
@@ -292,7 +308,9 @@ pub(crate) fn first_false(
 
 /// Whether some column of the row is NULL.
 fn some_null(database: &Database, spot: Spot, columns: &[u32]) -> bool
-    ensures { result ≡ list_any (λ column. is_null (value_in database.now (place database.now spot.table spot.row) column)) columns.now }
+    ensures { result ≡ list_any
+        (λ column. is_null (value_in database.now (place database.now spot.table spot.row) column))
+        columns.now }
 {
     columns
         .iter()
@@ -302,7 +320,10 @@ fn some_null(database: &Database, spot: Spot, columns: &[u32]) -> bool
 /// Whether some row of the target agrees with the row in the paired columns.
 fn some_target(database: &Database, spot: Spot, key: &ForeignKey) -> bool
     requires { has_few_rows database.now ≡ true }
-    ensures { result ≡ list_any (λ target. agree database.now (place database.now spot.table spot.row) key.now.columns target key.now.target_columns) (places_of database.now key.now.target) }
+    ensures { result ≡ list_any
+        (λ target. agree database.now (place database.now spot.table spot.row) key.now.columns
+        target key.now.target_columns)
+        (places_of database.now key.now.target) }
 {
     for row in 0..row_count(database, key.target) {
         let target = Spot {

@@ -3,7 +3,7 @@ use Rattle.lint_core.specs.Condition.{truth}
 use Rattle.lint_core.specs.Evaluation.{map_ok}
 use Rattle.lint_core.specs.Question.{all_true}
 use Rattle.sql_meaning.specs.Behind.{behind}
-use Rattle.sql_meaning.specs.Standing.{tables_of_levels, binding_of_levels}
+use Rattle.sql_meaning.specs.inner.Standing.{tables_of_levels, binding_of_levels}
 use Rattle.sql_meaning.proofs.clauses.all_true_in.Given as goal
 
 abbrev pub invariant-loop-cond : goal.invariant-loop-cond

@@ -1,5 +1,5 @@
 use Rattle.std.proofs.Common.{◌≡◌, drop}
-use Rattle.sql_meaning.specs.Plan.{are_same_values}
+use Rattle.sql_meaning.specs.inner.Plan.{are_same_values}
 use Rattle.sql_meaning.proofs.clauses.are_same_items.Given as goal
 
 abbrev pub invariant-loop-item : goal.invariant-loop-item

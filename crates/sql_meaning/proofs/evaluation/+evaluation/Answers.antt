@@ -7,8 +7,8 @@ use Rattle.lint_core.specs.Fits.{tables_of}
 use Rattle.sql_meaning.proofs.Gathered.{rows_end, rows_step, rows_stop, select_gives}
 use Rattle.sql_meaning.proofs.Steps.{exists_is, in_gives, in_stops, scalar_gives, scalar_stops, scalar_value_stops}
 use Rattle.sql_meaning.proofs.evaluation.+evaluation.Goals as goal
-use Rattle.sql_meaning.specs.Seen.{value_of, values_of}
-use Rattle.sql_meaning.specs.Standing.{binding_of_levels, tables_of_levels}
+use Rattle.sql_meaning.specs.inner.Seen.{value_of, values_of}
+use Rattle.sql_meaning.specs.inner.Standing.{binding_of_levels, tables_of_levels}
 
 pub evaluate-returns-in-And : goal.evaluate-returns-in-And
 evaluate-returns-in-And t c =

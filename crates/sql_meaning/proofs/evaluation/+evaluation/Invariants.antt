@@ -10,9 +10,9 @@ use Rattle.lint_core.specs.declared.condition.Block.{out-Block}
 use Rattle.lint_core.specs.declared.database.Value.{Value}
 use Rattle.sql_meaning.proofs.Weights.{block_weight, weight}
 use Rattle.sql_meaning.proofs.evaluation.+evaluation.Given as goal
-use Rattle.sql_meaning.specs.Gathered.{gathered, gathered_over, joined}
-use Rattle.sql_meaning.specs.Seen.{values_of}
-use Rattle.sql_meaning.specs.Standing.{binding_of_levels, tables_of_levels}
+use Rattle.sql_meaning.specs.inner.Gathered.{gathered, gathered_over, joined}
+use Rattle.sql_meaning.specs.inner.Seen.{values_of}
+use Rattle.sql_meaning.specs.inner.Standing.{binding_of_levels, tables_of_levels}
 
 abbrev pub decreases-Search::visit : goal.decreases-Search::visit
 decreases-Search::visit l = weight (out-Block l.self.now.block.now).cond + length l.rest.now + 2

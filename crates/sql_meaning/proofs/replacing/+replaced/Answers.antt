@@ -5,7 +5,8 @@ use Rattle.lint_core.specs.declared.condition.Cond.{Cond}
 use Rattle.lint_core.specs.declared.condition.Cond.TheVariants as cond
 use Rattle.lint_core.specs.Predicates.{predicates}
 use Rattle.lint_core.proofs.Parted.{predicates_and, predicates_or}
-use Rattle.sql_meaning.specs.Replacing.{constant, after, replaced_at, parts_at, alone_at}
+use Rattle.sql_meaning.specs.Replacing.{constant}
+use Rattle.sql_meaning.specs.inner.ReplacedParts.{after, replaced_at, parts_at, alone_at}
 use Rattle.sql_meaning.proofs.ReplacedParts.{at_and, at_or, at_scalar}
 use Rattle.sql_meaning.proofs.replacing.+replaced.Goals as goal
 

@@ -1,7 +1,8 @@
 use Rattle.std.proofs.Common.{◌≡◌, ◌++◌, length, drop}
 use Rattle.std.specs.List.{flat_map}
 use Rattle.lint_core.specs.Predicates.{predicates}
-use Rattle.sql_meaning.specs.Replacing.{constant, after, parts_at}
+use Rattle.sql_meaning.specs.Replacing.{constant}
+use Rattle.sql_meaning.specs.inner.ReplacedParts.{after, parts_at}
 use Rattle.sql_meaning.proofs.replacing.+replaced.Given as goal
 
 -- the parts so far and the rest, and what the rest leaves of the number

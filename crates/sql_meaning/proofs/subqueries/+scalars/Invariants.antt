@@ -1,11 +1,11 @@
 use Rattle.std.proofs.Common.{◌≡◌, drop}
 use Rattle.std.specs.List.{flat_map}
-use Rattle.lint_core.specs.Subqueries.{scalar_subqueries}
-use Rattle.sql_meaning.specs.Reached.{item_at}
+use Rattle.sql_meaning.specs.WholeSubqueries.{whole_scalars}
+use Rattle.sql_meaning.specs.inner.Reached.{item_at}
 use Rattle.sql_meaning.proofs.subqueries.+scalars.Given as goal
 
 -- those of the rest, by what is left of the number
 abbrev pub invariant-seek_scalar_in_each-loop-part : goal.invariant-seek_scalar_in_each-loop-part
 invariant-seek_scalar_in_each-loop-part l =
-    item_at (flat_map (λ part. scalar_subqueries part l.tables) (drop l.part-index l.parts)) l.left
-    ≡ item_at (flat_map (λ part. scalar_subqueries part l.tables) l.parts) l.number
+    item_at (flat_map (λ part. whole_scalars part l.tables) (drop l.part-index l.parts)) l.left
+    ≡ item_at (flat_map (λ part. whole_scalars part l.tables) l.parts) l.number

@@ -3,7 +3,7 @@ use Rattle.lint_core.specs.Fits.{main_tables}
 use Rattle.lint_core.specs.Points.{is_same_binding}
 use Rattle.sql_meaning.proofs.ClauseParts.{distinct_two}
 use Rattle.sql_meaning.proofs.clauses.Main.fails_needless_distinct.Goals as goal
-use Rattle.sql_meaning.specs.Plan.{are_same_values}
+use Rattle.sql_meaning.specs.inner.Plan.{are_same_values}
 
 pub returns-in-Two : goal.returns-in-Two
 returns-in-Two c =

@@ -3,7 +3,7 @@ use Rattle.std.proofs.lemmas.Grind.{common_steps}
 use Rattle.lint_core.proofs.LevelTables.{length_inside, at_outer, at_own}
 use Rattle.sql_meaning.proofs.Standing.{binding_inside}
 use Rattle.sql_meaning.proofs.levels.Levels.+look_up_row.Goals as goal
-use Rattle.sql_meaning.specs.Standing.{binding_of_levels}
+use Rattle.sql_meaning.specs.inner.Standing.{binding_of_levels}
 
 pub returns-in-Ok-clause-there : goal.returns-in-Ok-clause-there
 returns-in-Ok-clause-there t c =

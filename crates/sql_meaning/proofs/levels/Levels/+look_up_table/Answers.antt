@@ -4,7 +4,7 @@ use Rattle.lint_core.specs.Fits.{tables_of}
 use Rattle.lint_core.proofs.LevelTables.{length_inside, at_outer, at_own}
 use Rattle.sql_meaning.proofs.Standing.{tables_inside}
 use Rattle.sql_meaning.proofs.levels.Levels.+look_up_table.Goals as goal
-use Rattle.sql_meaning.specs.Standing.{tables_of_levels}
+use Rattle.sql_meaning.specs.inner.Standing.{tables_of_levels}
 
 pub returns-in-Ok-clause-there : goal.returns-in-Ok-clause-there
 returns-in-Ok-clause-there t c =

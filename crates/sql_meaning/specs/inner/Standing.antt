@@ -1,5 +1,5 @@
 -- Where a condition stands: the tables and the binding of the levels that the code links from the inside out, the
--- outermost level first. Nothing here has to be believed: no public contract says it.
+-- outermost level first.
 use Rattle.std.specs.Prelude.{ℕ, List, [], ◌∷◌, ◌++◌}
 use Rattle.lint_core.specs.Fits.{tables_of}
 use Rattle.sql_meaning.specs.declared.levels.Levels.{Levels, fold-Levels}

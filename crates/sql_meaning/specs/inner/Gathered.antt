@@ -1,4 +1,4 @@
--- What a subquery selects, row by row. Nothing here has to be believed: no public contract says it.
+-- What a subquery selects, row by row.
 use Rattle.std.specs.Prelude.{ℕ, List, [], ◌∷◌, ◌++◌, length, Result, Ok, Err, if◌then◌else◌}
 use Rattle.lint_core.specs.declared.condition.Term.{Term}
 use Rattle.lint_core.specs.declared.database.Database.{Database}

@@ -1,16 +1,12 @@
 -- A subquery that a search reached, or how much of the number is left where there are too few.
 use Rattle.std.specs.Prelude.{ℕ, zero, suc, List, [], ◌∷◌, Result, Ok, Err}
-use Rattle.lint_core.specs.declared.condition.Block.{out-Block}
-use Rattle.lint_core.specs.Subqueries as sub
-use Rattle.sql_meaning.specs.declared.subqueries.Subquery.{Subquery}
 use Rattle.sql_meaning.specs.declared.subqueries.Search.{Search}
 use Rattle.sql_meaning.specs.declared.subqueries.Search.TheVariants.{Found, Left}
+use Rattle.sql_meaning.specs.Answered.{whole_of}
+use Rattle.sql_meaning.specs.WholeSubqueries.{WholeSubquery}
 
-abbrev pub subquery_of : Subquery → sub.Subquery
-subquery_of s = record { tables = s.tables; cond = (out-Block s.block.now).cond; item = s.item.now; place = s.span }
-
-abbrev pub reached : Search → Result sub.Subquery ℕ
-reached (Found subquery) = Ok (subquery_of subquery)
+abbrev pub reached : Search → Result WholeSubquery ℕ
+reached (Found subquery) = Ok (whole_of subquery)
 reached (Left number) = Err number
 
 abbrev pub item_at : {A : Type 0} → List A → ℕ → Result A ℕ

@@ -1,5 +1,4 @@
--- The clauses of the questions in the pieces that the code computes them by. Nothing here has to be believed: no
--- public contract says it.
+-- The clauses of the questions in the pieces that the code computes them by.
 use Rattle.std.specs.Prelude.{ℕ, Bool, false, ◌&&◌, not, List, [], ◌∷◌, length, map, Ok, if◌then◌else◌}
 use Rattle.std.specs.List.{list_any, list_all}
 use Rattle.lint_core.specs.declared.condition.Cond.{Cond}

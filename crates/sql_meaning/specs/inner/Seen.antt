@@ -1,4 +1,4 @@
--- The value that an evaluation sees. Nothing here has to be believed: no public contract says it.
+-- The value that an evaluation sees.
 use Rattle.std.specs.Prelude.{List, Option, Some, None, map}
 use Rattle.std.specs.Borrow.{Bor}
 use Rattle.lint_core.specs.declared.database.Value.{Value}
