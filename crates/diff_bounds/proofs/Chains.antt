@@ -7,8 +7,8 @@ use Rattle.std.proofs.lemmas.Map.Steps.{length-le_from_distinct_below}
 use Rattle.std.proofs.lemmas.Int.{ints}
 use Rattle.diff_bounds.specs.declared.system.Edge.{Edge}
 use Rattle.diff_bounds.specs.System.{value_in, IsModerate}
-use Rattle.diff_bounds.specs.Cycles.{edge_at, left_ends}
-use Rattle.diff_bounds.specs.Relaxing.{reason_of, Ends, AllEnd, IsReason, IsHeld, IsAbove}
+use Rattle.diff_bounds.specs.Rings.{edge_at, left_ends}
+use Rattle.diff_bounds.specs.inner.Relaxing.{reason_of, Ends, AllEnd, IsReason, IsHeld, IsAbove}
 
 -- the end of a chain of reasons is unique
 pub same_length : (edges : List Edge) (reasons : List (Option ℕ)) (at : ℕ) (es fs : List ℕ) → Ends edges reasons at es → Ends edges reasons at fs → length es ≡ length fs

@@ -1,4 +1,4 @@
--- Chains of reasons that come back: they are cycles with a negative sum.
+-- Chains of reasons that come back: they are rings with a negative sum.
 use Rattle.std.proofs.Common.{◌≡◌, ◌≢◌, ◌⊎◌, ℕ, ℤ, pos, ◌+ℤ◌, ◌≤ℤ◌, ◌<ℤ◌, ◌<◌, ◌≤◌, List, [], ◌∷◌, ◌++◌, length, true, false, Option, Some, None, All, set, zero, suc, refl, sym, ap, inl, inr, arith, eqb, ◌∙◌}
 use Rattle.std.specs.List.{IsDistinct, AllByRecursion, list_any}
 use Rattle.std.proofs.lemmas.List.{length-map, length-set, get_or-set_other}
@@ -9,8 +9,8 @@ use Rattle.std.proofs.lemmas.List.Elements.{All-from_recursion}
 use Rattle.std.proofs.lemmas.Map.Keys.{IsDistinct-cons}
 use Rattle.diff_bounds.specs.declared.system.Edge.{Edge}
 use Rattle.diff_bounds.specs.System.{value_in, IsAmong}
-use Rattle.diff_bounds.specs.Cycles.{edge_at, left_ends, sum_of, Leads}
-use Rattle.diff_bounds.specs.Relaxing.{reason_of, Ends, Runs, Reaches, ComesTo, IsReason, IsHeld, IsAnswerCycle}
+use Rattle.diff_bounds.specs.Rings.{edge_at, left_ends, sum_of, Leads}
+use Rattle.diff_bounds.specs.inner.Relaxing.{reason_of, Ends, Runs, Reaches, ComesTo, IsReason, IsHeld, IsAnswerRing}
 use Rattle.diff_bounds.proofs.Chains.{Starts, eqb_no, or_cases, distinct, short, held_starts}
 
 -- ---- chains, one edge more and joined
@@ -93,7 +93,7 @@ lefts_below edges vars among (e ∷ es) numbers q any =
       | inr there ↦ lefts_below edges vars among es numbers.1 q there
     ]
 
--- ---- the cycle
+-- ---- the ring
 
 module _ (edges : List Edge) (vars : ℕ) (values : List ℤ) (reasons : List (Option ℕ)) (held : IsHeld edges vars values reasons) where
   -- the edges lead on from one another
@@ -144,8 +144,8 @@ module _ (edges : List Edge) (vars : ℕ) (values : List ℤ) (reasons : List (O
         | inr later ↦ (let never : held.time (edge_at edges number).left < held.time (edge_at edges number).left = later.1 in absurd (omega arith))
       ]
 
-  -- a reason from whose right end the reasons lead back to its left end begins a cycle that is an answer
-  pub closes : (among : All (IsAmong vars) edges) (number : ℕ) (es : List ℕ) → reason_of reasons (edge_at edges number).left ≡ Some number → ComesTo edges reasons (edge_at edges number).left (edge_at edges number).right es → IsAnswerCycle edges vars (number ∷ es)
+  -- a reason from whose right end the reasons lead back to its left end begins a ring that is an answer
+  pub closes : (among : All (IsAmong vars) edges) (number : ℕ) (es : List ℕ) → reason_of reasons (edge_at edges number).left ≡ Some number → ComesTo edges reasons (edge_at edges number).left (edge_at edges number).right es → IsAnswerRing edges vars (number ∷ es)
   closes among number es some comes =
       let numbers : AllByRecursion (λ e. e < length edges) (number ∷ es) = ((held.lowered _ number some).number, numbers_along _ _ _ es comes) in
       let simple : IsDistinct eqb (left_ends edges (number ∷ es)) =

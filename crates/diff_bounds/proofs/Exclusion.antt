@@ -5,7 +5,7 @@ use Rattle.std.proofs.lemmas.Int.{ints}
 use Rattle.std.proofs.lemmas.List.Elements.{recursion_from_All}
 use Rattle.diff_bounds.specs.declared.system.Edge.{Edge}
 use Rattle.diff_bounds.specs.System.{Satisfies, Holds}
-use Rattle.diff_bounds.specs.Cycles.{edge_at, Leads, IsClosed, sum_of, IsNegativeCycle}
+use Rattle.diff_bounds.specs.Rings.{edge_at, Leads, IsClosed, sum_of, IsNegativeRing}
 
 -- along a chain the values fall by no more than the sum of the bounds
 along : (edges : List Edge) (value : ℕ → ℤ) (holds : (e : ℕ) → e < length edges → Holds value (edge_at edges e)) (from to : ℕ) (es : List ℕ) → AllByRecursion (λ e. e < length edges) es → Leads edges from es to → value from ≤ℤ (value to +ℤ sum_of edges es)
@@ -19,8 +19,8 @@ along edges value holds from to (e ∷ es) numbers leads =
     let rest : value (edge_at edges e).right ≤ℤ (value to +ℤ sum_of edges es) = along edges value holds _ to es numbers.1 leads.1 in
     omega (arith, ints)
 
--- so a cycle with a negative sum leaves no values
-none_satisfy : (edges : List Edge) (value : ℕ → ℤ) (holds : (e : ℕ) → e < length edges → Holds value (edge_at edges e)) (cycle : List ℕ) → AllByRecursion (λ e. e < length edges) cycle → IsClosed edges cycle → sum_of edges cycle <ℤ pos 0 → ⊥
+-- so a ring with a negative sum leaves no values
+none_satisfy : (edges : List Edge) (value : ℕ → ℤ) (holds : (e : ℕ) → e < length edges → Holds value (edge_at edges e)) (ring : List ℕ) → AllByRecursion (λ e. e < length edges) ring → IsClosed edges ring → sum_of edges ring <ℤ pos 0 → ⊥
 none_satisfy edges value holds [] numbers closed negative = closed
 none_satisfy edges value holds (e ∷ es) numbers closed negative =
     let here : value (edge_at edges e).left ≤ℤ (value (edge_at edges e).right +ℤ (edge_at edges e).most) = holds e numbers.0 in
@@ -28,6 +28,6 @@ none_satisfy edges value holds (e ∷ es) numbers closed negative =
     let below : ((edge_at edges e).most +ℤ sum_of edges es) <ℤ pos 0 = negative in
     omega (arith, ints)
 
-pub excludes : (edges : List Edge) (cycle : List ℕ) (value : ℕ → ℤ) → IsNegativeCycle edges cycle → Satisfies value edges → ⊥
-excludes edges cycle value negative satisfies =
-    none_satisfy edges value (λ e listed. satisfies e _ listed) cycle (recursion_from_All (λ e. e < length edges) cycle negative.numbers) negative.closed negative.negative
+pub excludes : (edges : List Edge) (ring : List ℕ) (value : ℕ → ℤ) → IsNegativeRing edges ring → Satisfies value edges → ⊥
+excludes edges ring value negative satisfies =
+    none_satisfy edges value (λ e listed. satisfies e _ listed) ring (recursion_from_All (λ e. e < length edges) ring negative.numbers) negative.closed negative.negative

@@ -6,8 +6,8 @@ use Rattle.std.proofs.lemmas.Bool.{cases_eq}
 use Rattle.std.proofs.lemmas.Int.{ints}
 use Rattle.diff_bounds.specs.declared.system.Edge.{Edge}
 use Rattle.diff_bounds.specs.System.{value_in, IsModerate}
-use Rattle.diff_bounds.specs.Cycles.{edge_at}
-use Rattle.diff_bounds.specs.Relaxing.{reason_of, IsReason, IsHeld, IsAbove, AllEnd, height, positive_part}
+use Rattle.diff_bounds.specs.Rings.{edge_at}
+use Rattle.diff_bounds.specs.inner.Relaxing.{reason_of, IsReason, IsHeld, IsAbove, AllEnd, height, positive_part}
 
 -- a lowered value lies at or below what it was
 value_set_le : (values : List ℤ) (k at : ℕ) (z : ℤ) → k < length values → z ≤ℤ value_in values k → value_in (set values k z) at ≤ℤ value_in values at

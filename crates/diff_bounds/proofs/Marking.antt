@@ -4,8 +4,8 @@ use Rattle.std.proofs.lemmas.List.{get_or-set_same, get_or-set_other, get_or_rea
 use Rattle.std.proofs.lemmas.List.Sums.{sum_by-set}
 use Rattle.std.proofs.lemmas.Bool.{cases_eq}
 use Rattle.diff_bounds.specs.declared.system.Edge.{Edge}
-use Rattle.diff_bounds.specs.Cycles.{edge_at}
-use Rattle.diff_bounds.specs.Relaxing.{reason_of, mark_of, Ends, AllEnd, Runs, IsSettled, IsSettledAfter, Closes}
+use Rattle.diff_bounds.specs.Rings.{edge_at}
+use Rattle.diff_bounds.specs.inner.Relaxing.{reason_of, mark_of, Ends, AllEnd, Runs, IsSettled, IsSettledAfter, Closes}
 use Rattle.diff_bounds.proofs.Chains.{reason_listed}
 use Rattle.diff_bounds.proofs.Closing.{runs_more, runs_ends, first}
 

@@ -6,8 +6,8 @@ use Rattle.std.proofs.lemmas.Int.{ints, to_z-of_z}
 use Rattle.std.proofs.lemmas.List.{get_or_read}
 use Rattle.diff_bounds.specs.declared.system.Edge.{Edge}
 use Rattle.diff_bounds.specs.System.{value_in, IsAmong, IsModerate, Holds}
-use Rattle.diff_bounds.specs.Cycles.{edge_at}
-use Rattle.diff_bounds.specs.Relaxing.{IsHeld, IsAbove, height}
+use Rattle.diff_bounds.specs.Rings.{edge_at}
+use Rattle.diff_bounds.specs.inner.Relaxing.{IsHeld, IsAbove, height}
 use Rattle.diff_bounds.proofs.Lowering.{lowers, above_after, height_falls}
 
 le_true : (a b : ℤ) → le_z a b ≡ true → a ≤ℤ b

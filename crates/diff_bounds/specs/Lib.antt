@@ -1,4 +1,4 @@
 pub mod System
-pub mod Cycles
+pub mod Rings
 pub mod Answer
-pub mod Relaxing
+pub mod inner

@@ -1,14 +1,14 @@
 //! Edges are relaxed in turn until each holds, or until the edges that last lowered the values close
-//! a cycle.
+//! a ring.
 ghost use Rattle.std.specs.Prelude.{ℕ, ◌<◌, ◌≤◌, ◌+◌, ◌^◌, ◌++◌, ◌≡◌, IfOk, MatchOption};
 ghost use Rattle.std.specs.Prelude.{List, All, length, None, replicate};
 ghost use Rattle.diff_bounds.specs.declared.system.Edge.{Edge};
 ghost use Rattle.diff_bounds.specs.System.{IsAmong, IsModerate, Satisfies, value_in};
-ghost use Rattle.diff_bounds.specs.Cycles.{IsNegativeCycle, IsSimple};
-ghost use Rattle.diff_bounds.specs.Answer.{IfValues, IfCycle};
-ghost use Rattle.diff_bounds.specs.Relaxing.{IsSound, IsAbove, DoneTo, DoneToAll};
-ghost use Rattle.diff_bounds.specs.Relaxing.{AreReasons, AllEnd, ComesTo, Closes, IsAnswerCycle};
-ghost use Rattle.diff_bounds.specs.Relaxing.{IsSettled, IsSettledAfter, mark_of};
+ghost use Rattle.diff_bounds.specs.Rings.{IsNegativeRing, IsSimple};
+ghost use Rattle.diff_bounds.specs.Answer.{IfValues, IfRing};
+ghost use Rattle.diff_bounds.specs.inner.Relaxing.{IsSound, IsAbove, DoneTo, DoneToAll};
+ghost use Rattle.diff_bounds.specs.inner.Relaxing.{AreReasons, AllEnd, ComesTo, Closes, IsAnswerRing};
+ghost use Rattle.diff_bounds.specs.inner.Relaxing.{IsSettled, IsSettledAfter, mark_of};
 
 use crate::system::{Edge, Solved};
 use lint_base::{Items, NoMemory};
@@ -21,7 +21,7 @@ struct Search {
     reasons: Vec<Option<u32>>,
 }
 
-/// Values for the variables 0 to `vars` - 1 that satisfy every edge, or the edges of a cycle: a closed
+/// Values for the variables 0 to `vars` - 1 that satisfy every edge, or the edges of a ring: a closed
 /// chain whose bounds have a negative sum, and in which no two edges have the same left end.
 ///
 /// `NoMemory` when memory runs out, and in no other case.
@@ -32,21 +32,21 @@ pub fn solve(alloc: Global, vars: u32, edges: &[Edge]) -> Result<Solved, NoMemor
     requires few { length edges.now ≤ 2 ^ 20 }
     ensures count { IfOk result (λ s. IfValues s (λ values. length values ≡ vars)) }
     ensures satisfied { IfOk result (λ s. IfValues s (λ values. Satisfies (value_in values) edges.now)) }
-    ensures cycle { IfOk result (λ s. IfCycle s (λ cycle. IsNegativeCycle edges.now cycle)) }
-    ensures short { IfOk result (λ s. IfCycle s (λ cycle. length cycle ≤ vars)) }
-    ensures simple { IfOk result (λ s. IfCycle s (λ cycle. IsSimple edges.now cycle)) }
+    ensures cycle { IfOk result (λ s. IfRing s (λ ring. IsNegativeRing edges.now ring)) }
+    ensures short { IfOk result (λ s. IfRing s (λ ring. length ring ≤ vars)) }
+    ensures simple { IfOk result (λ s. IfRing s (λ ring. IsSimple edges.now ring)) }
 {
     let mut search = Search::new(alloc, vars)?;
     while search.relax_all(edges) {
-        if let Some(cycle) = find_cycle(alloc, edges, &search.reasons)? {
-            return Ok(Solved::Cycle(Items::from_vec(cycle)));
+        if let Some(ring) = find_ring(alloc, edges, &search.reasons)? {
+            return Ok(Solved::Cycle(Items::from_vec(ring)));
         }
     }
     Ok(Solved::Values(Items::from_vec(search.values)))
 }
 
 impl Search {
-    /// Each variable is 0, for no reason.
+    /// Every variable starts at 0; no edge has lowered it yet.
     fn new(alloc: Global, vars: u32) -> Result<Search, NoMemory>
         ensures sound { IfOk result (λ search. (edges : List Edge) → IsSound edges vars search) }
         ensures ends { IfOk result (λ search. (edges : List Edge) → AllEnd edges search.reasons.items) }
@@ -114,9 +114,9 @@ fn nones(alloc: Global, count: usize) -> Result<Vec<Option<u32>>, NoMemory>
     Ok(all)
 }
 
-/// A cycle of edges that are each the reason of their left end, if there is one. It takes time in
+/// A ring of edges that are each the reason of their left end, if there is one. It takes time in
 /// proportion to the number of variables.
-fn find_cycle(
+fn find_ring(
     alloc: Global,
     edges: &[Edge],
     reasons: &[Option<u32>],
@@ -125,7 +125,7 @@ fn find_cycle(
     requires variables { length reasons.now ≤ 32769 }
     requires reasons { AreReasons edges.now reasons.now }
     ensures { let vars = length reasons.now in
-        let IsFound = λ (cycle : List ℕ). IsAnswerCycle edges.now vars cycle in
+        let IsFound = λ (ring : List ℕ). IsAnswerRing edges.now vars ring in
         IfOk result (λ found. MatchOption found (AllEnd edges.now reasons.now) (λ c. IsFound c.items)) }
 {
     let mut marks = nones(alloc, reasons.len())?;
@@ -135,10 +135,10 @@ fn find_cycle(
         }
         if let Some(number) = mark(edges, reasons, root, &mut marks) {
             let edge = edges[number as usize];
-            let mut cycle = Vec::new(alloc);
-            cycle.push(number)?;
-            trace(edges, reasons, edge.right, edge.left, &mut cycle)?;
-            return Ok(Some(cycle));
+            let mut ring = Vec::new(alloc);
+            ring.push(number)?;
+            trace(edges, reasons, edge.right, edge.left, &mut ring)?;
+            return Ok(Some(ring));
         }
     }
     Ok(None)
@@ -220,7 +220,7 @@ mod tests {
                     assert_eq!(rt; values.as_slice().len(), vars as usize);
                     assert!(rt; values.as_slice().iter().all(|value| *value == 0));
                 }
-                Solved::Cycle(_) => assert!(rt; false, "a cycle without edges"),
+                Solved::Cycle(_) => assert!(rt; false, "a ring without edges"),
             }
         }
         // Two edges that leave one difference between the variables 0 and 1.
@@ -232,27 +232,27 @@ mod tests {
                     assert_eq!(rt; values.len(), 2);
                     assert!(rt; values[0].checked_sub(values[1]) == Some(back), "at {back}");
                 }
-                Solved::Cycle(_) => assert!(rt; false, "a cycle at {back}"),
+                Solved::Cycle(_) => assert!(rt; false, "a ring at {back}"),
             }
         }
     }
 
     #[test]
-    fn a_cycle_where_there_are_none(rt: HostRuntime) {
+    fn a_ring_where_there_are_none(rt: HostRuntime) {
         for (there, back) in [(-1, 0), (0, -1), (5, -6)] {
             let edges = [edge(1, 0, there), edge(0, 1, back)];
             match solve(rt.alloc(), 2, &edges).expect(&rt, "memory") {
                 Solved::Values(_) => assert!(rt; false, "values at {back}"),
-                Solved::Cycle(cycle) => {
-                    let cycle = cycle.as_slice();
-                    assert_eq!(rt; cycle.len(), 2);
-                    assert!(rt; cycle.contains(&0) && cycle.contains(&1));
+                Solved::Cycle(ring) => {
+                    let ring = ring.as_slice();
+                    assert_eq!(rt; ring.len(), 2);
+                    assert!(rt; ring.contains(&0) && ring.contains(&1));
                 }
             }
         }
         match solve(rt.alloc(), 1, &[edge(0, 0, -1)]).expect(&rt, "memory") {
             Solved::Values(_) => assert!(rt; false, "values"),
-            Solved::Cycle(cycle) => assert_eq!(rt; cycle.as_slice(), [0].as_slice()),
+            Solved::Cycle(ring) => assert_eq!(rt; ring.as_slice(), [0].as_slice()),
         }
     }
 }

@@ -2,7 +2,7 @@
 ghost use Rattle.std.specs.Prelude.{ℕ, ℤ, List};
 ghost use Rattle.diff_bounds.specs.declared.system.Edge.{Edge};
 ghost use Rattle.diff_bounds.specs.System.{Satisfies};
-ghost use Rattle.diff_bounds.specs.Cycles.{IsNegativeCycle};
+ghost use Rattle.diff_bounds.specs.Rings.{IsNegativeRing};
 
 use lint_base::Items;
 
@@ -26,6 +26,6 @@ pub enum Solved {
 /// A law, and no work: where a system has a closed chain with a negative sum, no integers at all
 /// satisfy it. So an answer by values and an answer by such a chain exclude each other.
 pub fn negative_cycle_excludes_values()
-    ensures { (edges : List Edge) (cycle : List ℕ) (value : ℕ → ℤ) →
-        IsNegativeCycle edges cycle → ¬ (Satisfies value edges) }
+    ensures { (edges : List Edge) (ring : List ℕ) (value : ℕ → ℤ) →
+        IsNegativeRing edges ring → ¬ (Satisfies value edges) }
 {}

@@ -17,7 +17,7 @@ ghost use Rattle.sort_formula.specs.Rows.{tables_of_rows};
 ghost use Rattle.sort_formula.specs.Sentences.{formula_fits};
 
 /// In a database whose values are of the schema's domains, the negation of a formula that fits the schema holds
-/// exactly where the formula does not. A row of a variable is any place of a table, be there a row or not.
+/// exactly where the formula does not. A variable may stand for any place of its table, also one that holds no row.
 pub fn negation_complements()
     ensures { (schema : List Table) (db : Database) → is_of_domains schema db ≡ true
         → (formula : Formula) (rows : List Place) → formula_fits schema formula (tables_of_rows rows) ≡ true

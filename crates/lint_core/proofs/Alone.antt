@@ -9,7 +9,7 @@ use Rattle.lint_core.specs.declared.condition.Block.{Block}
 use Rattle.lint_core.specs.declared.condition.Cond.TheVariants as cond
 use Rattle.lint_core.specs.Conjuncts.{conjuncts}
 use Rattle.lint_core.specs.Naming.{names, has_scalar}
-use Rattle.lint_core.specs.ScalarWithout.{has_scalar_without}
+use Rattle.lint_core.specs.inner.ScalarWithout.{has_scalar_without}
 use Rattle.lint_core.proofs.Parted.{conjuncts_true, conjuncts_false, conjuncts_and, conjuncts_or, conjuncts_not, conjuncts_compare, conjuncts_is_null, conjuncts_exists, conjuncts_in, conjuncts_scalar}
 
 module _ (entry : ℕ) where

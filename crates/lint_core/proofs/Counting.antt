@@ -8,7 +8,7 @@ use Rattle.lint_core.specs.declared.condition.Cond.{Cond, ind-Cond, roll-Cond, f
 use Rattle.lint_core.specs.declared.condition.Cond.TheVariants as cond
 use Rattle.lint_core.specs.declared.condition.Cond.TheOpen.{Cond-F, Block-F}
 use Rattle.lint_core.specs.declared.condition.Block.{Block, roll-Block, fold-Block, fold-roll-Block, map-Block}
-use Rattle.lint_core.specs.Counts.{scalars_step, count_scalars, not_ins_step, count_not_ins, predicates_step, count_predicates}
+use Rattle.lint_core.specs.inner.Counts.{scalars_step, count_scalars, not_ins_step, count_not_ins, predicates_step, count_predicates}
 use Rattle.lint_core.specs.Fits.{tables_of}
 use Rattle.lint_core.specs.Parts.{With, described, cond_itself, block_itself}
 use Rattle.lint_core.specs.Predicates.{Replaceable, predicates}

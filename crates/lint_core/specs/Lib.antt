@@ -15,10 +15,10 @@ pub mod Conjuncts
 pub mod Predicates
 pub mod Subqueries
 pub mod Naming
-pub mod Counts
+pub mod inner
 pub mod Asked
-pub mod ScalarWithout
 pub mod Points
+pub mod Forms
 pub mod Question
 pub mod QueryAnswer
 pub mod PlainWord

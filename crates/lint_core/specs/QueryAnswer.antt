@@ -15,13 +15,13 @@ use Rattle.lint_core.specs.Evaluation.{Evaluated, map_ok}
 use Rattle.lint_core.specs.Fits.{tables_of}
 
 -- value by value not distinct
-abbrev pub is_same_row : List Value → List Value → Bool
-is_same_row row other = pointwise are_not_distinct row other
+abbrev pub are_not_distinct_rows : List Value → List Value → Bool
+are_not_distinct_rows row other = pointwise are_not_distinct row other
 
 -- the first of each set of rows that are not distinct
 abbrev pub one_of_each : List (List Value) → List (List Value)
 one_of_each [] = []
-one_of_each (row ∷ rows) = row ∷ filter (λ other. not (is_same_row row other)) (one_of_each rows)
+one_of_each (row ∷ rows) = row ∷ filter (λ other. not (are_not_distinct_rows row other)) (one_of_each rows)
 
 module _ (db : Database) (query : Query) where
   -- the row that a binding gives

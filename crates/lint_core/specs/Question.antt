@@ -2,7 +2,7 @@
 -- clause of the question says what has to be true there. A clause is decided only where each condition that it
 -- names has a truth at each binding that it names: instead of yes or no there is else the place in the text of
 -- the first scalar subquery that gives two rows. Of a question that is not asked of the query nothing is claimed.
-use Rattle.std.specs.Prelude.{ℕ, Bool, true, false, ◌&&◌, ◌||◌, ◌≡◌, not, nat_lt, List, [], ◌∷◌, length, map, slice_get, if◌then◌else◌, remove}
+use Rattle.std.specs.Prelude.{ℕ, Bool, true, false, ◌&&◌, ◌||◌, ◌≡◌, not, nat_lt, List, [], ◌∷◌, length, map, slice_get, if◌then◌else◌}
 use Rattle.std.specs.List.{list_all, list_any}
 use Rattle.std.specs.Option.{option_map_or}
 use Rattle.std.specs.Prelude.{Ok, Err}
@@ -26,9 +26,10 @@ use Rattle.lint_core.specs.Comparison.{is_null, are_not_distinct}
 use Rattle.lint_core.specs.Condition.{truth, is_true_at, term_value}
 use Rattle.lint_core.specs.Database.{rows_of, below}
 use Rattle.lint_core.specs.Evaluation.{Evaluated, and_then, map_ok, all_ok, all_hold}
-use Rattle.lint_core.specs.Fits.{main_tables, tables_of}
+use Rattle.lint_core.specs.Fits.{main_tables}
+use Rattle.lint_core.specs.Forms.{have_form}
 use Rattle.lint_core.specs.Meets.{meets}
-use Rattle.lint_core.specs.Points.{is_binding, is_same_binding, differ_in_last_level, differ_in_entry, with_row, is_same_row}
+use Rattle.lint_core.specs.Points.{with_row, is_same_row}
 use Rattle.lint_core.specs.Predicates.{with_replaced}
 use Rattle.lint_core.specs.Subqueries.{Subquery}
 use Rattle.lint_core.specs.Truth.{is_true}
@@ -42,47 +43,15 @@ abbrev pub one_is_true : Evaluated Truth → Evaluated Truth → Evaluated Bool
 one_is_true a b = and_then (λ t. map_ok (λ u. (is_true t && not (is_true u)) || (is_true u && not (is_true t))) b) a
 
 -- what stands for the truth of a condition at a binding, by the tables and the rows of the entries of each level
-abbrev pub Reading : Type 0
-Reading = Cond → List (List ℕ) → List (List ℕ) → Evaluated Truth
+abbrev pub Interpretation : Type 0
+Interpretation = Cond → List (List ℕ) → List (List ℕ) → Evaluated Truth
 
--- it is known, and so
+-- the outcome is decided, and is yes
 abbrev pub is_known_true : Evaluated Bool → Bool
 is_known_true (Ok fact) = fact
 is_known_true (Err place) = false
 
 module _ (db : Database) (query : Query) where
-  -- ---- the forms
-
-  abbrev pub is_main_binding : Binding → Bool
-  is_main_binding binding = is_binding db (main_tables query) binding.levels
-
-  -- one of the levels of a subquery, its own last
-  abbrev pub is_inner_binding : Binding → Subquery → Bool
-  is_inner_binding binding sub = is_binding db sub.tables binding.levels
-
-  -- the rows of all main entries but one
-  abbrev pub is_binding_without : ℕ → Binding → Bool
-  is_binding_without entry binding = is_binding db (remove (tables_of (main_entries query)) entry ∷ []) binding.levels
-
-  -- the points have the question's form and name existing rows
-  abbrev pub have_form : Question → Points → Bool
-  have_form (OneRow sub) (Two one two) =
-      option_map_or (λ s. is_inner_binding one s && is_inner_binding two s && differ_in_last_level one.levels two.levels) (slice_get (scalars_of query) sub) false
-  have_form Empty (One one) = is_main_binding one
-  have_form NeedlessDistinct (Two one two) = is_main_binding one && is_main_binding two && not (is_same_binding one.levels two.levels)
-  have_form (Constant item) (One one) = is_main_binding one
-  have_form (Duplicate item other) (One one) = is_main_binding one
-  have_form (NeedlessJoin entry) (Without one) = is_binding_without entry one
-  have_form (NeedlessJoin entry) (Two one two) = is_main_binding one && is_main_binding two && differ_in_entry entry one.levels two.levels
-  have_form (Implied predicate) (One one) = is_main_binding one
-  have_form (Impossible predicate) (One one) = is_main_binding one
-  have_form (SameRow entry other) (One one) = is_main_binding one
-  have_form (NullInNotIn sub) (One one) = option_map_or (is_inner_binding one) (slice_get (not_ins_of query) sub) false
-  -- points of another form
-  have_form question points = false
-
-  -- ---- the clauses
-
   -- the value of an item
   abbrev pub item_value : Binding → Item → Value
   item_value binding item = term_value db (main_tables query) binding.levels item.term
@@ -101,81 +70,78 @@ module _ (db : Database) (query : Query) where
   abbrev pub inner_value : List Subquery → ℕ → Binding → Value
   inner_value subs sub binding = option_map_or (λ (s : Subquery). term_value db s.tables binding.levels s.item) (slice_get subs sub) Null
 
-  -- by the truth of a condition, or by another reading of it
-  module _ (reading : Reading) where
-    abbrev pub where_read : Binding → Evaluated Truth
-    where_read binding = reading (main_condition query) (main_tables query) binding.levels
+  -- by the truth of a condition, or by what stands for it
+  module _ (interpret : Interpretation) where
+    abbrev pub where_by : Binding → Evaluated Truth
+    where_by binding = interpret (main_condition query) (main_tables query) binding.levels
 
     -- the conditions at the binding of all entries in which this entry has this row
-    abbrev pub are_read_true_with : ℕ → Binding → ℕ → List Cond → Evaluated Bool
-    are_read_true_with entry others row conds = all_true (map (λ c. reading c (main_tables query) (with_row entry row others.levels)) conds)
+    abbrev pub are_true_by : ℕ → Binding → ℕ → List Cond → Evaluated Bool
+    are_true_by entry others row conds = all_true (map (λ c. interpret c (main_tables query) (with_row entry row others.levels)) conds)
 
     -- at no row of the entry are all conjuncts true that name it
-    abbrev pub no_row_read : ℕ → Binding → Evaluated Bool
-    no_row_read entry others =
+    abbrev pub no_row_by : ℕ → Binding → Evaluated Bool
+    no_row_by entry others =
         map_ok (λ fit. not (list_any (λ fits. fits) fit))
-        (all_ok (map (λ row. are_read_true_with entry others row (conjuncts_with entry query)) (below (length (rows_of db (table_of entry))))))
+        (all_ok (map (λ row. are_true_by entry others row (conjuncts_with entry query)) (below (length (rows_of db (table_of entry))))))
 
     -- the condition of WHERE with a predicate replaced
-    abbrev pub replaced_read : Cond → ℕ → Binding → Evaluated Truth
-    replaced_read by predicate binding = reading (with_replaced by predicate (main_condition query)) (main_tables query) binding.levels
+    abbrev pub replaced_by : Cond → ℕ → Binding → Evaluated Truth
+    replaced_by by predicate binding = interpret (with_replaced by predicate (main_condition query)) (main_tables query) binding.levels
 
     -- of a subquery, at a binding of its levels
-    abbrev pub inner_read : List Subquery → ℕ → Binding → Evaluated Truth
-    inner_read subs sub binding = option_map_or (λ (s : Subquery). reading s.cond s.tables binding.levels) (slice_get subs sub) (Ok Truth.False)
+    abbrev pub inner_by : List Subquery → ℕ → Binding → Evaluated Truth
+    inner_by subs sub binding = option_map_or (λ (s : Subquery). interpret s.cond s.tables binding.levels) (slice_get subs sub) (Ok Truth.False)
 
     -- what refutes the question, at points of its form. The value is that of the constant column
-    abbrev pub clause_read : Question → Value → Points → Evaluated Bool
+    abbrev pub clause_by : Question → Value → Points → Evaluated Bool
     -- the subquery gives two rows
-    clause_read (OneRow sub) given (Two one two) = all_true (inner_read (scalars_of query) sub one ∷ inner_read (scalars_of query) sub two ∷ [])
+    clause_by (OneRow sub) given (Two one two) = all_true (inner_by (scalars_of query) sub one ∷ inner_by (scalars_of query) sub two ∷ [])
     -- the answer has a row
-    clause_read Empty given (One one) = all_true (where_read one ∷ [])
+    clause_by Empty given (One one) = all_true (where_by one ∷ [])
     -- the answer without DISTINCT has two rows that are not distinct
-    clause_read NeedlessDistinct given (Two one two) = map_ok (λ both. both && are_same_items one two) (all_true (where_read one ∷ where_read two ∷ []))
+    clause_by NeedlessDistinct given (Two one two) = map_ok (λ both. both && are_same_items one two) (all_true (where_by one ∷ where_by two ∷ []))
     -- the item has a distinct value
-    clause_read (Constant item) given (One one) = map_ok (λ here. here && not (are_not_distinct (value_of_item one item) given)) (all_true (where_read one ∷ []))
+    clause_by (Constant item) given (One one) = map_ok (λ here. here && not (are_not_distinct (value_of_item one item) given)) (all_true (where_by one ∷ []))
     -- the two items have distinct values
-    clause_read (Duplicate item other) given (One one) =
-        map_ok (λ here. here && not (are_not_distinct (value_of_item one item) (value_of_item one other))) (all_true (where_read one ∷ []))
+    clause_by (Duplicate item other) given (One one) =
+        map_ok (λ here. here && not (are_not_distinct (value_of_item one item) (value_of_item one other))) (all_true (where_by one ∷ []))
     -- no row of the entry fits; or two do. (0 stands in for a row of the entry, which these conjuncts do not name)
-    clause_read (NeedlessJoin entry) given (Without one) = all_hold (are_read_true_with entry one 0 (conjuncts_without entry query) ∷ no_row_read entry one ∷ [])
-    clause_read (NeedlessJoin entry) given (Two one two) = all_true (where_read one ∷ where_read two ∷ [])
+    clause_by (NeedlessJoin entry) given (Without one) = all_hold (are_true_by entry one 0 (conjuncts_without entry query) ∷ no_row_by entry one ∷ [])
+    clause_by (NeedlessJoin entry) given (Two one two) = all_true (where_by one ∷ where_by two ∷ [])
     -- exactly one of the two is true: WHERE, and WHERE with TRUE, or with FALSE, in place of the predicate
-    clause_read (Implied predicate) given (One one) = one_is_true (where_read one) (replaced_read cond.True predicate one)
-    clause_read (Impossible predicate) given (One one) = one_is_true (where_read one) (replaced_read cond.False predicate one)
+    clause_by (Implied predicate) given (One one) = one_is_true (where_by one) (replaced_by cond.True predicate one)
+    clause_by (Impossible predicate) given (One one) = one_is_true (where_by one) (replaced_by cond.False predicate one)
     -- the two entries have different rows
-    clause_read (SameRow entry other) given (One one) = map_ok (λ here. here && not (is_same_row one.levels entry other)) (all_true (where_read one ∷ []))
+    clause_by (SameRow entry other) given (One one) = map_ok (λ here. here && not (is_same_row one.levels entry other)) (all_true (where_by one ∷ []))
     -- the subquery selects NULL
-    clause_read (NullInNotIn sub) given (One one) = map_ok (λ here. here && is_null (inner_value (not_ins_of query) sub one)) (all_true (inner_read (not_ins_of query) sub one ∷ []))
+    clause_by (NullInNotIn sub) given (One one) = map_ok (λ here. here && is_null (inner_value (not_ins_of query) sub one)) (all_true (inner_by (not_ins_of query) sub one ∷ []))
     -- points of another form: not reached from `outcome`
-    clause_read question given points = Ok false
+    clause_by question given points = Ok false
 
     -- whether the points refute the question, where that can be decided
-    abbrev pub outcome_read : Question → Value → Points → Evaluated Bool
-    outcome_read question given points = if have_form question points then clause_read question given points else Ok false
+    abbrev pub outcome_by : Question → Value → Points → Evaluated Bool
+    outcome_by question given points = if have_form db query question points then clause_by question given points else Ok false
 
   -- by the truths themselves
 
   abbrev pub where_truth : Binding → Evaluated Truth
-  where_truth = where_read (truth db)
+  where_truth = where_by (truth db)
 
   abbrev pub are_true_with : ℕ → Binding → ℕ → List Cond → Evaluated Bool
-  are_true_with = are_read_true_with (truth db)
+  are_true_with = are_true_by (truth db)
 
   abbrev pub no_row_fits : ℕ → Binding → Evaluated Bool
-  no_row_fits = no_row_read (truth db)
+  no_row_fits = no_row_by (truth db)
 
   abbrev pub where_replaced : Cond → ℕ → Binding → Evaluated Truth
-  where_replaced = replaced_read (truth db)
-
-  abbrev pub inner_truth : List Subquery → ℕ → Binding → Evaluated Truth
-  inner_truth = inner_read (truth db)
+  where_replaced = replaced_by (truth db)
 
   abbrev pub clause : Question → Value → Points → Evaluated Bool
-  clause = clause_read (truth db)
+  clause = clause_by (truth db)
 
   abbrev pub outcome : Question → Value → Points → Evaluated Bool
-  outcome = outcome_read (truth db)
+  outcome = outcome_by (truth db)
 
   abbrev pub refutes : Question → Value → Points → Bool
   refutes question given points = is_known_true (outcome question given points)

@@ -6,7 +6,7 @@ ghost use Rattle.lint_core.specs.Asked.{scalars_of, not_ins_of, main_entries, ma
 ghost use Rattle.lint_core.specs.declared.query.Question.TheVariants.{NeedlessJoin};
 ghost use Rattle.lint_core.specs.Naming.{term_names, names, has_scalar};
 ghost use Rattle.lint_core.specs.Predicates.{predicates};
-ghost use Rattle.lint_core.specs.ScalarWithout.{has_scalar_without};
+ghost use Rattle.lint_core.specs.inner.ScalarWithout.{has_scalar_without};
 
 use crate::condition::{Cond, Entry, Term};
 use crate::query::{Item, Query, Question};

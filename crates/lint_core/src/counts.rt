@@ -2,7 +2,7 @@
 //! of a number. Each walk takes one away of the number as it goes, so that no count passes its type.
 ghost use Rattle.std.specs.Prelude.{◌≡◌, IfSome, IfNone, ◌<◌, ◌+◌, sum_by, nat_lt};
 ghost use Rattle.lint_core.specs.declared.condition.Block.{out-Block};
-ghost use Rattle.lint_core.specs.Counts.{count_scalars, count_not_ins, count_predicates};
+ghost use Rattle.lint_core.specs.inner.Counts.{count_scalars, count_not_ins, count_predicates};
 ghost use Rattle.lint_core.specs.Subqueries.{is_column};
 
 use crate::condition::{Block, Cond, Term};

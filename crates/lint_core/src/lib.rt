@@ -1,11 +1,10 @@
 //! What sqllint speaks about: schemas, queries, databases, questions and their answers, and the
 //! definitions of what they mean.
 //!
-//! The layer above may use every public type, `Schema::new`, the calls `fits`, `Query::is_first_form`,
-//! `Cond::names`, `Cond::has_scalar` and the copies. Of `specs/` a reader must believe `Schema` and `Fits`
-//! (which schemas and queries there are), `Domain`, `Database`, `Meets`, `Truth`, `Comparison`, `Evaluation`,
+//! The layer above may use every public item. Of `specs/` a reader must believe `Schema` and `Fits`
+//! with `Levels` (which schemas and queries there are), `Domain`, `Database`, `Meets`, `Truth`, `Comparison`, `Evaluation`,
 //! `Condition` and `QueryAnswer` (what SQL means), `Asked` with `Parts`, `Conjuncts`, `Predicates`,
-//! `Subqueries` and `Naming` (which questions are asked), `Points` and `Question` (when they fail),
+//! `Subqueries` and `Naming` (which questions are asked), `Points`, `Forms` and `Question` (when they fail),
 //! `DatabaseFits` (which databases a call takes), `FirstForm` and `PlainWord` (which queries are judged so
 //! far).
 //!

@@ -17,7 +17,7 @@ use Rattle.lint_core.specs.Schema.{is_schema}
 use Rattle.sort_formula.specs.Facts.{Branch}
 use Rattle.sort_formula.specs.Rings.{is_contradiction}
 use Rattle.diff_bounds.specs.declared.system.Edge.{Edge}
-use Rattle.diff_bounds.specs.Cycles.{edge_at, IsClosed, IsNegativeCycle, IsSimple}
+use Rattle.diff_bounds.specs.Rings.{edge_at, IsClosed, IsNegativeRing, IsSimple}
 use Rattle.lint_engine.specs.declared.comparison.Comparison.{Comparison}
 use Rattle.lint_engine.specs.declared.inequality.Inequality.{Inequality}
 use Rattle.lint_engine.specs.Plan.{of_domain, of_domains, of_comparison, of_comparisons, parts_after, first_fact, inequalities_of, edges_of, inequality_at, in_order}
@@ -122,7 +122,7 @@ module _ (schema : List Table) (known : is_schema schema ≡ true) (branch : Bra
       (λ no. (let to : i.edge.right ≡ 0 = zero_there i.edge i_zero (eqb-false i.edge.left 0 no) in
       pair_contradicts schema branch known j i j_is i_is (sym there ∙ to) to back (omega (arith, ints))))
 
-  pub cycle_contradicts : (is : List Inequality) (cycle : List ℕ) → AllByRecursion (IsStated schema branch) is → AllByRecursion OneZero is → IsNegativeCycle (edges_of is) cycle → length cycle ≡ 2 →
+  pub cycle_contradicts : (is : List Inequality) (cycle : List ℕ) → AllByRecursion (IsStated schema branch) is → AllByRecursion OneZero is → IsNegativeRing (edges_of is) cycle → length cycle ≡ 2 →
       is_contradiction schema branch (in_order (inequality_at is (get_or cycle 0 0)) (inequality_at is (get_or cycle 1 0))) ≡ true
   cycle_contradicts is [] stated zeros negative two = absurd (omega arith)
   cycle_contradicts is (a ∷ []) stated zeros negative two = absurd (omega arith)
@@ -142,7 +142,7 @@ module _ (schema : List Table) (known : is_schema schema ≡ true) (branch : Bra
   cycle_contradicts is (a ∷ b ∷ c ∷ cs) stated zeros negative two = absurd (omega arith)
 
 -- a cycle of the plan's inequalities has two edges
-pub cycle_of_two : (is : List Inequality) (cycle : List ℕ) → AllByRecursion OneZero is → IsNegativeCycle (edges_of is) cycle → IsSimple (edges_of is) cycle → length cycle ≡ 2
+pub cycle_of_two : (is : List Inequality) (cycle : List ℕ) → AllByRecursion OneZero is → IsNegativeRing (edges_of is) cycle → IsSimple (edges_of is) cycle → length cycle ≡ 2
 cycle_of_two is cycle zeros negative simple =
     of_two (edges_of is)
     (λ e listed. (let within : e < length is = omega (arith, length-map is (λ (i : Inequality). i.edge)) in

@@ -25,7 +25,7 @@ use Rattle.lint_core.specs.FirstForm.{Conjunct, IsFirstForm, is_one_range, is_nu
 use Rattle.lint_core.specs.Meets.{values_meet}
 use Rattle.lint_core.specs.Question.{HoldsAlways}
 use Rattle.lint_core.specs.Schema.{is_domain, is_schema}
-use Rattle.diff_bounds.specs.Cycles.{IsNegativeCycle, IsSimple}
+use Rattle.diff_bounds.specs.Rings.{IsNegativeRing, IsSimple}
 use Rattle.diff_bounds.specs.System.{IsAmong, IsModerate, Holds, Satisfies, value_in}
 use Rattle.lint_engine.specs.declared.comparison.Comparison.{Comparison}
 use Rattle.lint_engine.specs.declared.inequality.Inequality.{Inequality}
@@ -121,7 +121,7 @@ module _ (schema : List Table) (query : Query) (entry : Entry) (table : Table) (
     few_comparisons,
   )
 
-  pub two : (cycle : List ℕ) → IsNegativeCycle (edges_of plan) cycle → IsSimple (edges_of plan) cycle → length cycle ≡ 2
+  pub two : (cycle : List ℕ) → IsNegativeRing (edges_of plan) cycle → IsSimple (edges_of plan) cycle → length cycle ≡ 2
   two cycle negative simple = cycle_of_two plan cycle (all_one_zero columns comparisons) negative simple
 
   sentence : counter_sentence schema query Empty Null ≡ sentence_of entry.table comparisons
@@ -130,7 +130,7 @@ module _ (schema : List Table) (query : Query) (entry : Entry) (table : Table) (
       let numbers = all_no_text schema entry.table table read.of_table plain read.conjuncts read.columns_exist in
       rw read.comparisons_are (sentence_is schema query entry read.conjuncts read.one_entry read.form.filter numbers)
 
-  ring_accepted : (cycle : List ℕ) → IsNegativeCycle (edges_of plan) cycle → IsSimple (edges_of plan) cycle →
+  ring_accepted : (cycle : List ℕ) → IsNegativeRing (edges_of plan) cycle → IsSimple (edges_of plan) cycle →
       accepts schema (counter_sentence schema query Empty Null) (opening_steps comparisons ++ step.Sum (in_order (inequality_at plan (get_or cycle 0 0)) (inequality_at plan (get_or cycle 1 0))) ∷ []) ≡ true
   ring_accepted cycle negative simple =
       let stated : AllByRecursion (IsStated schema (opened entry.table comparisons)) plan = rw read.columns_are (all_stated schema entry.table table comparisons read.of_table some_comparisons) in
@@ -144,7 +144,7 @@ module _ (schema : List Table) (query : Query) (entry : Entry) (table : Table) (
       (steps : List Step) → accepts schema (counter_sentence schema query Empty Null) steps ≡ true → HoldsAlways schema query Empty Null
 
   pub certified : (query_number : ℕ) (cycle : List ℕ) (cert : Cert) → CertifiedHolds → query_fits schema query ≡ true →
-      IsNegativeCycle (edges_of plan) cycle → IsSimple (edges_of plan) cycle → cert.query ≡ query_number → cert.question ≡ 1 → cert.value ≡ Null →
+      IsNegativeRing (edges_of plan) cycle → IsSimple (edges_of plan) cycle → cert.query ≡ query_number → cert.question ≡ 1 → cert.value ≡ Null →
       cert.steps ≡ opening_steps comparisons ++ step.Sum (in_order (inequality_at plan (get_or cycle 0 0)) (inequality_at plan (get_or cycle 1 0))) ∷ [] → IsCertified schema query query_number 1 cert
   certified query_number cycle cert law fits negative simple query_is question_is value_is steps_are =
       let yes : accepts schema (counter_sentence schema query Empty Null) cert.steps ≡ true = rw steps_are (ring_accepted cycle negative simple) in

@@ -17,7 +17,7 @@ use Rattle.lint_core.specs.declared.database.Value.TheVariants.{Null, Int, Text}
 use Rattle.lint_core.specs.declared.query.Query.{Query}
 use Rattle.lint_core.specs.Comparison.{are_not_distinct}
 use Rattle.lint_core.specs.Evaluation.{map_ok}
-use Rattle.lint_core.specs.QueryAnswer.{is_same_row, one_of_each, all_rows, answer}
+use Rattle.lint_core.specs.QueryAnswer.{are_not_distinct_rows, one_of_each, all_rows, answer}
 use Rattle.lint_core.proofs.Conditions.{true_of_test}
 
 -- ---- values and rows that are not distinct
@@ -41,22 +41,22 @@ itself (Text a) = true_of_test (pointwise nat_eq a a) ∙ nat_list_eq_equiv.refl
 pub value_decides : (a b : Value) → Decides (are_not_distinct a b) (a ≡ b)
 value_decides a b = (one_value a b, λ same. subst (λ c. are_not_distinct a c ≡ true) same (itself a))
 
-one_row : (row other : List Value) → is_same_row row other ≡ true → row ≡ other
+one_row : (row other : List Value) → are_not_distinct_rows row other ≡ true → row ≡ other
 one_row [] [] alike = refl
 one_row [] (b ∷ other) alike = cc
 one_row (a ∷ row) [] alike = cc
 one_row (a ∷ row) (b ∷ other) alike =
-    let parts = and_parts (are_not_distinct a b) (is_same_row row other) alike in
+    let parts = and_parts (are_not_distinct a b) (are_not_distinct_rows row other) alike in
     let here : a ≡ b = one_value a b parts.0 in
     let later : row ≡ other = one_row row other parts.1 in
     cc
 
-row_itself : (row : List Value) → is_same_row row row ≡ true
+row_itself : (row : List Value) → are_not_distinct_rows row row ≡ true
 row_itself [] = refl
-row_itself (a ∷ row) = and_from (are_not_distinct a a) (is_same_row row row) (itself a) (row_itself row)
+row_itself (a ∷ row) = and_from (are_not_distinct a a) (are_not_distinct_rows row row) (itself a) (row_itself row)
 
-pub row_decides : (row other : List Value) → Decides (is_same_row row other) (row ≡ other)
-row_decides row other = (one_row row other, λ same. subst (λ x. is_same_row row x ≡ true) same (row_itself row))
+pub row_decides : (row other : List Value) → Decides (are_not_distinct_rows row other) (row ≡ other)
+row_decides row other = (one_row row other, λ same. subst (λ x. are_not_distinct_rows row x ≡ true) same (row_itself row))
 
 -- a test that decides whether two are one is an equivalence
 equivalence : {A : Type 0} (test : A → A → Bool) → ((a b : A) → Decides (test a b) (a ≡ b)) → IsEquivalence test
@@ -98,24 +98,24 @@ filter_distinct e test (x ∷ xs) distinct =
       | false ↦ filter_distinct e test xs distinct.1
     ]
 
-pub each_once : (rows : List (List Value)) → IsDistinct is_same_row (one_of_each rows)
+pub each_once : (rows : List (List Value)) → IsDistinct are_not_distinct_rows (one_of_each rows)
 unfolding IsDistinct
 each_once [] = tt
-each_once (row ∷ rows) = (all_not (is_same_row row) (one_of_each rows), filter_distinct is_same_row (λ other. not (is_same_row row other)) (one_of_each rows) (each_once rows))
+each_once (row ∷ rows) = (all_not (are_not_distinct_rows row) (one_of_each rows), filter_distinct are_not_distinct_rows (λ other. not (are_not_distinct_rows row other)) (one_of_each rows) (each_once rows))
 
 or_same : (a b c : Bool) → (a ≡ false → b ≡ c) → (a || b) ≡ (a || c)
 or_same true b c same = refl
 or_same false b c same = same refl
 
-pub same_rows : (wanted : List Value) (rows : List (List Value)) → list_any (is_same_row wanted) (one_of_each rows) ≡ list_any (is_same_row wanted) rows
+pub same_rows : (wanted : List Value) (rows : List (List Value)) → list_any (are_not_distinct_rows wanted) (one_of_each rows) ≡ list_any (are_not_distinct_rows wanted) rows
 same_rows wanted [] = refl
 same_rows wanted (row ∷ rows) =
-    or_same (is_same_row wanted row) _ (list_any (is_same_row wanted) rows) (λ other.
-    any-filter_same (is_same_row wanted) (λ k. not (is_same_row row k)) true
-    (λ k found. ap not (false_from_ne_true (is_same_row row k) (λ same.
+    or_same (are_not_distinct_rows wanted row) _ (list_any (are_not_distinct_rows wanted) rows) (λ other.
+    any-filter_same (are_not_distinct_rows wanted) (λ k. not (are_not_distinct_rows row k)) true
+    (λ k found. ap not (false_from_ne_true (are_not_distinct_rows row k) (λ same.
     let one : wanted ≡ k = one_row wanted k found in
     let two : row ≡ k = one_row row k same in
-    let alike : is_same_row wanted row ≡ true = (row_decides wanted row).1 cc in
+    let alike : are_not_distinct_rows wanted row ≡ true = (row_decides wanted row).1 cc in
     cc)))
     (one_of_each rows)
     ∙ same_rows wanted rows)
@@ -135,17 +135,17 @@ module _ (db : Database) (query : Query) where
       ]
 
   pub distinct_of : (distinct : Span) → query.distinct ≡ Some distinct → (all : List (List Value)) → all_rows db query ≡ Ok all →
-      (rows : List (List Value)) × (answer db query ≡ Ok rows) × IsDistinct is_same_row rows × ((row : List Value) → list_any (is_same_row row) rows ≡ list_any (is_same_row row) all)
+      (rows : List (List Value)) × (answer db query ≡ Ok rows) × IsDistinct are_not_distinct_rows rows × ((row : List Value) → list_any (are_not_distinct_rows row) rows ≡ list_any (are_not_distinct_rows row) all)
   distinct_of distinct is all known = (one_of_each all, answer_with distinct is ∙ ap (map_ok one_of_each) known, each_once all, λ row. same_rows row all)
 
   pub distinct_only : (distinct : Span) → query.distinct ≡ Some distinct → (rows : List (List Value)) → answer db query ≡ Ok rows →
-      (all : List (List Value)) × (all_rows db query ≡ Ok all) × IsDistinct is_same_row rows × ((row : List Value) → list_any (is_same_row row) rows ≡ list_any (is_same_row row) all)
+      (all : List (List Value)) × (all_rows db query ≡ Ok all) × IsDistinct are_not_distinct_rows rows × ((row : List Value) → list_any (are_not_distinct_rows row) rows ≡ list_any (are_not_distinct_rows row) all)
   distinct_only distinct is rows known =
       elim (all_rows db query) as (λ found. all_rows db query ≡ found → map_ok one_of_each found ≡ Ok rows →
-      (all : List (List Value)) × (all_rows db query ≡ Ok all) × IsDistinct is_same_row rows × ((row : List Value) → list_any (is_same_row row) rows ≡ list_any (is_same_row row) all)) [
+      (all : List (List Value)) × (all_rows db query ≡ Ok all) × IsDistinct are_not_distinct_rows rows × ((row : List Value) → list_any (are_not_distinct_rows row) rows ≡ list_any (are_not_distinct_rows row) all)) [
         | Ok all ↦ λ is made.
             let same : one_of_each all ≡ rows = cc in
-            (all, is, subst (IsDistinct is_same_row) same (each_once all), λ row. sym (ap (list_any (is_same_row row)) same) ∙ same_rows row all)
+            (all, is, subst (IsDistinct are_not_distinct_rows) same (each_once all), λ row. sym (ap (list_any (are_not_distinct_rows row)) same) ∙ same_rows row all)
         | Err place ↦ λ is made. cc
       ]
       refl (sym (answer_with distinct is) ∙ known)

@@ -18,7 +18,7 @@ ghost use Rattle.lint_core.specs.declared.query.Query.{Query};
 ghost use Rattle.lint_core.specs.Comparison.{compare, is_null, are_equal, are_not_distinct};
 ghost use Rattle.lint_core.specs.Condition.{truth, term_value, in_truth};
 ghost use Rattle.meaning_laws.specs.Connectives.{IsLeast, IsGreatest, HaveTruths, disjunction};
-ghost use Rattle.lint_core.specs.QueryAnswer.{is_same_row, all_rows, answer};
+ghost use Rattle.lint_core.specs.QueryAnswer.{are_not_distinct_rows, all_rows, answer};
 ghost use Rattle.meaning_laws.specs.SameRows.{HaveEqualRows, HaveSameTables, tables_named};
 ghost use Rattle.meaning_laws.specs.SubqueryValues.{HasInnerTruths, Selects};
 ghost use Rattle.lint_core.specs.Truth.{is_true, not_of, truth_of};
@@ -102,15 +102,15 @@ pub fn in_is_a_disjunction()
 pub fn distinct_keeps_one_of_each()
     ensures values { (a b : Value) → Decides (are_not_distinct a b) (a ≡ b) }
     ensures values_equivalence { IsEquivalence are_not_distinct }
-    ensures rows { (row other : List Value) → Decides (is_same_row row other) (row ≡ other) }
+    ensures rows { (row other : List Value) → Decides (are_not_distinct_rows row other) (row ≡ other) }
     ensures with_distinct { (db : Data) (query : Query) (distinct : Place) → query.distinct ≡ Some distinct
         → (all : List (List Value)) → all_rows db query ≡ Ok all
-        → (rows : List (List Value)) × (answer db query ≡ Ok rows) × IsDistinct is_same_row rows
-        × ((row : List Value) → list_any (is_same_row row) rows ≡ list_any (is_same_row row) all) }
+        → (rows : List (List Value)) × (answer db query ≡ Ok rows) × IsDistinct are_not_distinct_rows rows
+        × ((row : List Value) → list_any (are_not_distinct_rows row) rows ≡ list_any (are_not_distinct_rows row) all) }
     ensures only_with_distinct { (db : Data) (query : Query) (distinct : Place) → query.distinct ≡ Some distinct
         → (rows : List (List Value)) → answer db query ≡ Ok rows
-        → (all : List (List Value)) × (all_rows db query ≡ Ok all) × IsDistinct is_same_row rows
-        × ((row : List Value) → list_any (is_same_row row) rows ≡ list_any (is_same_row row) all) }
+        → (all : List (List Value)) × (all_rows db query ≡ Ok all) × IsDistinct are_not_distinct_rows rows
+        × ((row : List Value) → list_any (are_not_distinct_rows row) rows ≡ list_any (are_not_distinct_rows row) all) }
     ensures without { (db : Data) (query : Query) → query.distinct ≡ None → answer db query ≡ all_rows db query }
 {}
 

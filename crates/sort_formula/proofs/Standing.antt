@@ -1,7 +1,7 @@
 -- The tables of the quantifiers outside, where one more stands inside.
 use Rattle.std.proofs.Common.{◌≡◌, ◌∙◌, ap, sym, ℕ, List, [], ◌∷◌, ◌++◌}
 use Rattle.std.specs.Borrow.{Bor}
-use Rattle.sort_formula.specs.Standing.{tables_step, tables_outside}
+use Rattle.sort_formula.specs.inner.Standing.{tables_step, tables_outside}
 use Rattle.sort_formula.specs.declared.outside.Outside.{Outside}
 use Rattle.sort_formula.specs.declared.outside.Outside.TheFolds.{fold-roll-Outside}
 use Rattle.sort_formula.specs.declared.outside.Outside.TheOpen.{Outside-F}

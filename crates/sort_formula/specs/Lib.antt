@@ -3,7 +3,7 @@ pub mod Negated
 pub mod Variables
 pub mod Placed
 pub mod Sentences
-pub mod Standing
+pub mod inner
 pub mod Nodes
 pub mod Sides
 pub mod Translation

@@ -4,7 +4,7 @@ ghost use Rattle.std.specs.List.{list_all};
 ghost use Rattle.std.specs.Option.{option_map_or};
 ghost use Rattle.lint_core.specs.Kind.{is_text};
 ghost use Rattle.sort_formula.specs.Sentences.{kind_at, is_number_kind, is_number_side, is_text_side, atom_fits, formula_fits};
-ghost use Rattle.sort_formula.specs.Standing.{tables_outside};
+ghost use Rattle.sort_formula.specs.inner.Standing.{tables_outside};
 
 use crate::formula::{Atom, Formula, Side};
 use crate::outside::Outside;

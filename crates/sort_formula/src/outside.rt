@@ -1,7 +1,7 @@
 //! The quantifiers outside a formula, linked from the inside out.
 ghost use Rattle.std.specs.Prelude.{◌≡◌, ◌<◌, ◌+◌, length, IfOk, IfErr, slice_get, Some};
 ghost use Rattle.sort_formula.specs.Sentences.{is_variable, are_of_one_table};
-ghost use Rattle.sort_formula.specs.Standing.{tables_outside};
+ghost use Rattle.sort_formula.specs.inner.Standing.{tables_outside};
 
 /// The tables of the quantifiers outside.
 #[derive(Drop)]

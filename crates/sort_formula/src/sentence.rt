@@ -3,7 +3,7 @@ ghost use Rattle.std.specs.Prelude.{◌≡◌, true, false, [], ◌+◌, ◌-◌
 ghost use Rattle.std.specs.List.{list_all};
 ghost use Rattle.sort_formula.specs.Nodes.{nodes};
 ghost use Rattle.sort_formula.specs.Sentences.{has_variable, is_moderate, atom_is_bound, is_bound, is_sentence, formula_fits};
-ghost use Rattle.sort_formula.specs.Standing.{tables_outside};
+ghost use Rattle.sort_formula.specs.inner.Standing.{tables_outside};
 
 use crate::formula::{Atom, Formula, Side};
 use crate::outside::Outside;

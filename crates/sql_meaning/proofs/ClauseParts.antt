@@ -8,7 +8,8 @@ use Rattle.lint_core.specs.Database.{below, rows_of}
 use Rattle.lint_core.specs.Evaluation.{Evaluated, map_ok, all_ok, all_hold}
 use Rattle.lint_core.specs.Fits.{main_tables, tables_of}
 use Rattle.lint_core.specs.Points.{differ_in_entry, is_same_binding, with_row}
-use Rattle.lint_core.specs.Question.{all_true, are_true_with, is_binding_without, no_row_fits, outcome, table_of}
+use Rattle.lint_core.specs.Forms.{is_binding_without}
+use Rattle.lint_core.specs.Question.{all_true, are_true_with, no_row_fits, outcome, table_of}
 use Rattle.lint_core.specs.declared.condition.Block.{out-Block}
 use Rattle.lint_core.specs.declared.condition.Cond.{Cond}
 use Rattle.lint_core.specs.declared.condition.Entry.{Entry}

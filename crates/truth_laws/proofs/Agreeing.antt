@@ -1,4 +1,4 @@
--- In databases of the domains the loose reading agrees with the truths at the conditions and the bindings that the
+-- In databases of the domains the loose interpretation agrees with the truths at the conditions and the bindings that the
 -- clause of an asked question names; so it decides the clause alike.
 use Rattle.std.proofs.Common.{◌≡◌, ap, refl, sym, subst, ℕ, Bool, true, false, ◌&&◌, not, ◌<◌, List, [], ◌∷◌, length, map, nat_lt}
 use Rattle.std.proofs.lemmas.Bool.{ltb-true}
@@ -30,8 +30,9 @@ use Rattle.lint_core.specs.Fits.{cond_fits, query_fits, main_tables, tables_of}
 use Rattle.lint_core.specs.Meets.{is_of_domains}
 use Rattle.lint_core.specs.Naming.{names, has_scalar}
 use Rattle.lint_core.specs.Points.{with_row, is_same_binding, differ_in_last_level, differ_in_entry, is_same_row}
-use Rattle.lint_core.specs.Question.{all_true, one_is_true, Reading, is_main_binding, is_inner_binding, is_binding_without, have_form, are_same_items, value_of_item, table_of, inner_value}
-use Rattle.lint_core.specs.Question.{where_read, are_read_true_with, no_row_read, replaced_read, inner_read, clause_read, outcome, outcome_read}
+use Rattle.lint_core.specs.Forms.{is_main_binding, is_inner_binding, is_binding_without, have_form}
+use Rattle.lint_core.specs.Question.{all_true, one_is_true, Interpretation, are_same_items, value_of_item, table_of, inner_value}
+use Rattle.lint_core.specs.Question.{where_by, are_true_by, no_row_by, replaced_by, inner_by, clause_by, outcome, outcome_by}
 use Rattle.lint_core.specs.Subqueries.{Subquery}
 use Rattle.lint_core.specs.Truth.{truth_of}
 use Rattle.sort_formula.specs.Loose.{by_formula, rows_at}
@@ -56,32 +57,32 @@ module _ (schema : List Table) (db : Database) (domains : is_of_domains schema d
   agree cond tables binding fit same t known =
       ap (λ b. Ok (truth_of b)) (says schema db domains cond (scope_of tables) fit binding (rows_at tables binding) (numbered_stands db tables binding same cond) t known).0
 
-  abbrev loose : Reading
+  abbrev loose : Interpretation
   loose = by_formula schema db
 
   module _ (query : Query) (fits : query_fits schema query ≡ true) where
     main_fit : cond_fits schema (main_tables query) (main_condition query) ≡ true
     main_fit = main_fits schema query fits
 
-    main_agree : (one : Binding) → is_main_binding db query one ≡ true → Agree (where_read db query (truth db) one) (where_read db query loose one)
+    main_agree : (one : Binding) → is_main_binding db query one ≡ true → Agree (where_by db query (truth db) one) (where_by db query loose one)
     main_agree one is = agree (main_condition query) (main_tables query) one.levels main_fit (binding_shape db (main_tables query) one.levels is)
 
     replaced_agree : (by : Cond) → ((tables : List (List ℕ)) → cond_fits schema tables by ≡ true) → (predicate : ℕ) (one : Binding) → is_main_binding db query one ≡ true →
-        Agree (replaced_read db query (truth db) by predicate one) (replaced_read db query loose by predicate one)
+        Agree (replaced_by db query (truth db) by predicate one) (replaced_by db query loose by predicate one)
     replaced_agree by by_fits predicate one is =
         agree _ (main_tables query) one.levels (replaced_fits schema by by_fits (main_condition query) predicate (main_tables query) main_fit)
         (binding_shape db (main_tables query) one.levels is)
 
-    abbrev read_at : Reading → Binding → Option Subquery → Evaluated Truth
-    read_at reading one found = option_map_or (λ (s : Subquery). reading s.cond s.tables one.levels) found (Ok False)
+    abbrev interpreted_at : Interpretation → Binding → Option Subquery → Evaluated Truth
+    interpreted_at interpret one found = option_map_or (λ (s : Subquery). interpret s.cond s.tables one.levels) found (Ok False)
 
     found_agree : (one : Binding) (found : Option Subquery) → option_map_or (is_fit schema) found true ≡ true → option_map_or (is_inner_binding db query one) found false ≡ true →
-        Agree (read_at (truth db) one found) (read_at loose one found)
+        Agree (interpreted_at (truth db) one found) (interpreted_at loose one found)
     found_agree one None fit is = cc
     found_agree one (Some s) fit is = agree s.cond s.tables one.levels fit (binding_shape db s.tables one.levels is)
 
     inner_agree : (subs : List Subquery) → list_all (is_fit schema) subs ≡ true → (sub : ℕ) (one : Binding) → option_map_or (is_inner_binding db query one) (slice_get subs sub) false ≡ true →
-        Agree (inner_read db query (truth db) subs sub one) (inner_read db query loose subs sub one)
+        Agree (inner_by db query (truth db) subs sub one) (inner_by db query loose subs sub one)
     inner_agree subs fit sub one is = found_agree one (slice_get subs sub) (at_place (is_fit schema) subs sub fit) is
 
     scalars_are_fit : list_all (is_fit schema) (scalars_of query) ≡ true
@@ -99,11 +100,11 @@ module _ (schema : List Table) (db : Database) (domains : is_of_domains schema d
     conjuncts_are_fit = conjuncts_fit schema (main_condition query) (main_tables query) main_fit
 
     module _ (entry : ℕ) (others : Binding) (low : entry < length (tables_of (main_entries query))) (form : is_binding_without db query entry others ≡ true) where
-      abbrev at_row : Reading → ℕ → Cond → Evaluated Truth
-      at_row reading row cond = reading cond (main_tables query) (with_row entry row others.levels)
+      abbrev at_row : Interpretation → ℕ → Cond → Evaluated Truth
+      at_row interpret row cond = interpret cond (main_tables query) (with_row entry row others.levels)
 
       true_with_lead : (row : ℕ) (conds : List Cond) → list_all fit_here conds ≡ true →
-          Leads (are_read_true_with db query (truth db) entry others row conds) (are_read_true_with db query loose entry others row conds)
+          Leads (are_true_by db query (truth db) entry others row conds) (are_true_by db query loose entry others row conds)
       true_with_lead row conds fit =
           all_true_lead (at_row (truth db) row) (at_row loose row) fit_here
           (λ cond here.
@@ -114,8 +115,8 @@ module _ (schema : List Table) (db : Database) (domains : is_of_domains schema d
       abbrev rows : List ℕ
       rows = below (length (rows_of db (table_of db query entry)))
 
-      abbrev fit_at : Reading → ℕ → Evaluated Bool
-      fit_at reading row = are_read_true_with db query reading entry others row (conjuncts_with entry query)
+      abbrev fit_at : Interpretation → ℕ → Evaluated Bool
+      fit_at interpret row = are_true_by db query interpret entry others row (conjuncts_with entry query)
 
       rows_lead : Leads (all_ok (map (fit_at (truth db)) rows)) (all_ok (map (fit_at loose) rows))
       rows_lead =
@@ -124,21 +125,21 @@ module _ (schema : List Table) (db : Database) (domains : is_of_domains schema d
           (λ row is. true_with_lead row (conjuncts_with entry query) (filter_keeps fit_here (names entry) (conjuncts (main_condition query)) conjuncts_are_fit))
           rows (each_is rows))
 
-      no_row_leads : Leads (no_row_read db query (truth db) entry others) (no_row_read db query loose entry others)
+      no_row_leads : Leads (no_row_by db query (truth db) entry others) (no_row_by db query loose entry others)
       no_row_leads = map_leads (λ fit. not (list_any (λ fits. fits) fit)) (all_ok (map (fit_at (truth db)) rows)) (all_ok (map (fit_at loose) rows)) rows_lead
 
-      abbrev both_read : Reading → List (Evaluated Bool)
-      both_read reading = are_read_true_with db query reading entry others 0 (conjuncts_without entry query) ∷ no_row_read db query reading entry others ∷ []
+      abbrev both_by : Interpretation → List (Evaluated Bool)
+      both_by interpret = are_true_by db query interpret entry others 0 (conjuncts_without entry query) ∷ no_row_by db query interpret entry others ∷ []
 
-      without_leads : (given : Value) → Leads (clause_read db query (truth db) (NeedlessJoin entry) given (Without others)) (clause_read db query loose (NeedlessJoin entry) given (Without others))
+      without_leads : (given : Value) → Leads (clause_by db query (truth db) (NeedlessJoin entry) given (Without others)) (clause_by db query loose (NeedlessJoin entry) given (Without others))
       without_leads given =
-          facts_lead (both_read (truth db)) (both_read loose)
+          facts_lead (both_by (truth db)) (both_by loose)
           (true_with_lead 0 (conjuncts_without entry query) (filter_keeps fit_here (λ cond. not (names entry cond)) (conjuncts (main_condition query)) conjuncts_are_fit), (no_row_leads, tt))
 
     -- ---- the questions
 
-    abbrev where_at : Reading → Binding → Evaluated Truth
-    where_at = where_read db query
+    abbrev where_at : Interpretation → Binding → Evaluated Truth
+    where_at = where_by db query
 
     main_leads : (one : Binding) → is_main_binding db query one ≡ true → Leads (all_true (where_at (truth db) one ∷ [])) (all_true (where_at loose one ∷ []))
     main_leads one is = one_true_leads (where_at (truth db) one) (where_at loose one) (main_agree one is)
@@ -152,24 +153,24 @@ module _ (schema : List Table) (db : Database) (domains : is_of_domains schema d
     mains_lead one two first second = two_true_lead (where_at (truth db) one) (where_at loose one) (where_at (truth db) two) (where_at loose two) (main_agree one first) (main_agree two second)
 
     replaced_leads : (by : Cond) → ((tables : List (List ℕ)) → cond_fits schema tables by ≡ true) → (predicate : ℕ) (one : Binding) → is_main_binding db query one ≡ true →
-        Leads (one_is_true (where_at (truth db) one) (replaced_read db query (truth db) by predicate one)) (one_is_true (where_at loose one) (replaced_read db query loose by predicate one))
+        Leads (one_is_true (where_at (truth db) one) (replaced_by db query (truth db) by predicate one)) (one_is_true (where_at loose one) (replaced_by db query loose by predicate one))
     replaced_leads by by_fits predicate one is =
-        one_leads (where_at (truth db) one) (where_at loose one) (replaced_read db query (truth db) by predicate one) (replaced_read db query loose by predicate one)
+        one_leads (where_at (truth db) one) (where_at loose one) (replaced_by db query (truth db) by predicate one) (replaced_by db query loose by predicate one)
         (main_agree one is) (replaced_agree by by_fits predicate one is)
 
     scalars_lead : (sub : ℕ) (one two : Binding) → option_map_or (is_inner_binding db query one) (slice_get (scalars_of query) sub) false ≡ true →
         option_map_or (is_inner_binding db query two) (slice_get (scalars_of query) sub) false ≡ true →
-        Leads (all_true (inner_read db query (truth db) (scalars_of query) sub one ∷ inner_read db query (truth db) (scalars_of query) sub two ∷ []))
-        (all_true (inner_read db query loose (scalars_of query) sub one ∷ inner_read db query loose (scalars_of query) sub two ∷ []))
+        Leads (all_true (inner_by db query (truth db) (scalars_of query) sub one ∷ inner_by db query (truth db) (scalars_of query) sub two ∷ []))
+        (all_true (inner_by db query loose (scalars_of query) sub one ∷ inner_by db query loose (scalars_of query) sub two ∷ []))
     scalars_lead sub one two first second =
-        let at = λ (reading : Reading) (binding : Binding). inner_read db query reading (scalars_of query) sub binding in
+        let at = λ (interpret : Interpretation) (binding : Binding). inner_by db query interpret (scalars_of query) sub binding in
         two_true_lead (at (truth db) one) (at loose one) (at (truth db) two) (at loose two)
         (inner_agree (scalars_of query) scalars_are_fit sub one first) (inner_agree (scalars_of query) scalars_are_fit sub two second)
 
     not_ins_lead : (sub : ℕ) (one : Binding) (f : Bool → Bool) → option_map_or (is_inner_binding db query one) (slice_get (not_ins_of query) sub) false ≡ true →
-        Leads (map_ok f (all_true (inner_read db query (truth db) (not_ins_of query) sub one ∷ []))) (map_ok f (all_true (inner_read db query loose (not_ins_of query) sub one ∷ [])))
+        Leads (map_ok f (all_true (inner_by db query (truth db) (not_ins_of query) sub one ∷ []))) (map_ok f (all_true (inner_by db query loose (not_ins_of query) sub one ∷ [])))
     not_ins_lead sub one f is =
-        let at = λ (reading : Reading). inner_read db query reading (not_ins_of query) sub one in
+        let at = λ (interpret : Interpretation). inner_by db query interpret (not_ins_of query) sub one in
         map_leads f (all_true (at (truth db) ∷ [])) (all_true (at loose ∷ [])) (one_true_leads (at (truth db)) (at loose) (inner_agree (not_ins_of query) not_ins_are_fit sub one is))
 
     entry_low : (entry : ℕ) → is_asked schema query (NeedlessJoin entry) ≡ true → entry < length (tables_of (main_entries query))
@@ -212,10 +213,10 @@ module _ (schema : List Table) (db : Database) (domains : is_of_domains schema d
         found form
 
     abbrev exact_clause : Question → Value → Points → Evaluated Bool
-    exact_clause = clause_read db query (truth db)
+    exact_clause = clause_by db query (truth db)
 
     abbrev loose_clause : Question → Value → Points → Evaluated Bool
-    loose_clause = clause_read db query loose
+    loose_clause = clause_by db query loose
 
     clause_leads : (question : Question) → is_asked schema query question ≡ true → (given : Value) (points : Points) → have_form db query question points ≡ true →
         Leads (exact_clause question given points) (loose_clause question given points)
@@ -239,8 +240,8 @@ module _ (schema : List Table) (db : Database) (domains : is_of_domains schema d
     clause_leads (NullInNotIn sub) asked given (One one) form = not_ins_lead sub one (λ here. here && is_null (inner_value db query (not_ins_of query) sub one)) form
     clause_leads question asked given points form = cc
 
-    -- what the truths decide, the loose reading decides alike
+    -- what the truths decide, the loose interpretation decides alike
     pub outcome_leads : (question : Question) → is_asked schema query question ≡ true → (given : Value) (points : Points) →
-        Leads (outcome db query question given points) (outcome_read db query loose question given points)
+        Leads (outcome db query question given points) (outcome_by db query loose question given points)
     outcome_leads question asked given points =
         in_form (have_form db query question points) (exact_clause question given points) (loose_clause question given points) (clause_leads question asked given points)

@@ -16,7 +16,7 @@ ghost use Rattle.lint_core.specs.Database.{Place};
 ghost use Rattle.lint_core.specs.Fits.{cond_fits, query_fits};
 ghost use Rattle.lint_core.specs.Meets.{is_of_domains};
 ghost use Rattle.lint_core.specs.Naming.{names};
-ghost use Rattle.lint_core.specs.Question.{outcome, outcome_read};
+ghost use Rattle.lint_core.specs.Question.{outcome, outcome_by};
 ghost use Rattle.lint_core.specs.Truth.{is_true, is_false};
 ghost use Rattle.sort_formula.specs.Holds.{holds};
 ghost use Rattle.sort_formula.specs.Loose.{by_formula};
@@ -58,12 +58,12 @@ pub fn formulas_fit()
         → formula_fits schema (is_false_formula schema cond scope) outside ≡ true }
 {}
 
-/// In a database of the domains the loose reading of an asked question agrees with the exact one wherever the truths
+/// In a database of the domains the loose interpretation of an asked question agrees with the truths wherever those
 /// that the question's clause needs exist.
-pub fn loose_reading_agrees()
+pub fn loose_interpretation_agrees()
     ensures { (schema : List Table) (db : Database) → is_of_domains schema db ≡ true
         → (query : Query) → query_fits schema query ≡ true
         → (question : Question) → is_asked schema query question ≡ true
         → (given : Value) (points : Points) (fails : Bool) → outcome db query question given points ≡ Ok fails
-        → outcome_read db query (by_formula schema db) question given points ≡ Ok fails }
+        → outcome_by db query (by_formula schema db) question given points ≡ Ok fails }
 {}

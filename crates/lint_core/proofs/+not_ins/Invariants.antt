@@ -1,6 +1,6 @@
 use Rattle.std.proofs.Common.{◌≡◌, ◌+◌, drop}
 use Rattle.std.specs.List.{sum_by}
-use Rattle.lint_core.specs.Counts.{count_not_ins}
+use Rattle.lint_core.specs.inner.Counts.{count_not_ins}
 use Rattle.lint_core.proofs.+not_ins.Given as goal
 
 -- what the rest took away, and those that are left

@@ -1,6 +1,6 @@
 use Rattle.std.proofs.Common.{◌≡◌, drop}
 use Rattle.std.specs.List.{list_any}
-use Rattle.lint_core.specs.ScalarWithout.{has_scalar_without}
+use Rattle.lint_core.specs.inner.ScalarWithout.{has_scalar_without}
 use Rattle.lint_core.proofs.+scalar_without.Given as goal
 
 -- none so far has one

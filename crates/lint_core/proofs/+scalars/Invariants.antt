@@ -1,6 +1,6 @@
 use Rattle.std.proofs.Common.{◌≡◌, ◌+◌, drop}
 use Rattle.std.specs.List.{sum_by}
-use Rattle.lint_core.specs.Counts.{count_scalars}
+use Rattle.lint_core.specs.inner.Counts.{count_scalars}
 use Rattle.lint_core.proofs.+scalars.Given as goal
 
 -- what the rest took away, and those that are left

@@ -1,4 +1,4 @@
-use Rattle.sort_formula.specs.Standing.{tables_outside}
+use Rattle.sort_formula.specs.inner.Standing.{tables_outside}
 use Rattle.sort_formula.proofs.Fitting.{bound_parts}
 use Rattle.sort_formula.proofs.+bound.Goals as goal
 

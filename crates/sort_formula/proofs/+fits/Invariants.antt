@@ -1,7 +1,7 @@
 use Rattle.std.proofs.Common.{◌≡◌, drop}
 use Rattle.std.specs.List.{list_all}
 use Rattle.sort_formula.specs.Sentences.{formula_fits}
-use Rattle.sort_formula.specs.Standing.{tables_outside}
+use Rattle.sort_formula.specs.inner.Standing.{tables_outside}
 use Rattle.sort_formula.proofs.+fits.Given as goal
 
 -- all so far fit

@@ -12,7 +12,8 @@ use Rattle.lint_core.specs.Condition.{term_value, truth}
 use Rattle.lint_core.specs.Database.{rows_of, below}
 use Rattle.lint_core.specs.Evaluation.{Evaluated, map_ok, all_ok, all_hold}
 use Rattle.lint_core.specs.Points.{differ_in_last_level}
-use Rattle.lint_core.specs.Question.{all_true, one_is_true, is_main_binding, is_binding_without, where_truth, where_replaced, are_true_with, table_of, no_row_fits, is_inner_binding}
+use Rattle.lint_core.specs.Forms.{is_main_binding, is_binding_without, is_inner_binding}
+use Rattle.lint_core.specs.Question.{all_true, one_is_true, where_truth, where_replaced, are_true_with, table_of, no_row_fits}
 use Rattle.lint_core.specs.Subqueries.{Subquery}
 
 -- the items' values at two bindings of these tables are not distinct

@@ -1,5 +1,5 @@
 use Rattle.std.proofs.Common.{◌≡◌, ◌<◌, length, sum_by, None}
-use Rattle.diff_bounds.specs.Relaxing.{mark_of}
+use Rattle.diff_bounds.specs.inner.Relaxing.{mark_of}
 use Rattle.diff_bounds.proofs.Marking.{IsOnTheWay, unmarked}
 use Rattle.diff_bounds.proofs.relaxing.mark.Given as goal
 

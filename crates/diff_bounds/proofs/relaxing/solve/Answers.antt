@@ -1,7 +1,7 @@
 use Rattle.std.proofs.Common.{◌≡◌, length, subst}
 use Rattle.std.proofs.lemmas.List.Elements.{All-from_get_or}
 use Rattle.diff_bounds.specs.System.{Holds, value_in}
-use Rattle.diff_bounds.specs.Relaxing.{AllEnd}
+use Rattle.diff_bounds.specs.inner.Relaxing.{AllEnd}
 use Rattle.diff_bounds.proofs.Chains.{all_above}
 use Rattle.diff_bounds.proofs.relaxing.solve.Goals as goal
 
@@ -15,7 +15,7 @@ relax_all-requires-clause-above c =
 pub loop-alloc-preserved : goal.loop-alloc-preserved
 loop-alloc-preserved c =
     let count : length c.loop-alloc.search.values.items ≡ c.args.vars = c.loop-alloc.invariant.sound.values_length in
-    let none = rw c.in_default.is at c.in_ok-cycle.ensures in
+    let none = rw c.in_default.is at c.in_ok-ring.ensures in
     record {
       sound = rw count at c.relax_all.ensures.sound;
       ends = subst (AllEnd c.args.edges.now) c.deref.ensures.value none;

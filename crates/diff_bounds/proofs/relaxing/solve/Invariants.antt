@@ -1,4 +1,4 @@
-use Rattle.diff_bounds.specs.Relaxing.{IsSound, AllEnd, height}
+use Rattle.diff_bounds.specs.inner.Relaxing.{IsSound, AllEnd, height}
 use Rattle.diff_bounds.proofs.relaxing.solve.Given as goal
 
 abbrev pub invariant-loop-alloc : goal.invariant-loop-alloc

@@ -1,6 +1,6 @@
 use Rattle.std.proofs.Common.{◌≡◌, ℕ, ◌≤◌, ◌+◌, List, [], ◌∷◌, ◌++◌, length, arith, ◌∙◌, ap}
 use Rattle.std.proofs.lemmas.List.{append_assoc, length-append}
-use Rattle.diff_bounds.specs.Relaxing.{ComesTo}
+use Rattle.diff_bounds.specs.inner.Relaxing.{ComesTo}
 use Rattle.diff_bounds.proofs.Chains.{held_starts}
 use Rattle.diff_bounds.proofs.Closing.{reaches_more, reaches_comes, comes_on, comes_there, comes_short}
 use Rattle.diff_bounds.proofs.relaxing.trace.Goals as goal

@@ -1,5 +1,5 @@
 use Rattle.std.proofs.Common.{◌≡◌, ◌+◌, ◌-◌, ◌<◌, ℕ, List, ◌++◌, length}
-use Rattle.diff_bounds.specs.Relaxing.{Reaches, ComesTo}
+use Rattle.diff_bounds.specs.inner.Relaxing.{Reaches, ComesTo}
 use Rattle.diff_bounds.proofs.relaxing.trace.Given as goal
 
 abbrev pub invariant-loop-at : goal.invariant-loop-at

@@ -5,7 +5,7 @@ use Rattle.lint_core.specs.declared.database.Row.{Row}
 use Rattle.lint_core.specs.declared.schema.Column.{Column}
 use Rattle.lint_core.specs.declared.schema.Table.{Table}
 use Rattle.diff_bounds.specs.declared.system.Edge.{Edge}
-use Rattle.diff_bounds.specs.Cycles.{IsNegativeCycle, IsSimple}
+use Rattle.diff_bounds.specs.Rings.{IsNegativeRing, IsSimple}
 use Rattle.diff_bounds.specs.System.{IsAmong, IsModerate, Satisfies, value_in}
 use Rattle.lint_core.specs.declared.certificate.Step.TheVariants as step
 use Rattle.lint_engine.specs.declared.comparison.Comparison.{Comparison}
@@ -62,19 +62,19 @@ certificate-requires-clause-few c =
 pub certificate-requires-clause-two : goal.certificate-requires-clause-two
 certificate-requires-clause-two c =
     let d = (goal.at.certificate-requires-clause-two c).After-deref-3 in
-    let plan_cycle : IsNegativeCycle c.deref-3.result.now c.in-Cycle.cycle = rw c.in-Cycle.is at c.in_ok-cycle.ensures.cycle in
+    let plan_cycle : IsNegativeRing c.deref-3.result.now c.in-Cycle.cycle = rw c.in-Cycle.is at c.in_ok-cycle.ensures.cycle in
     let plan_simple : IsSimple c.deref-3.result.now c.in-Cycle.cycle = rw c.in-Cycle.is at c.in_ok-cycle.ensures.simple in
     rw c.as_slice-in-Cycle.ensures
     (two _ _ _ _ _ _ (read (goal.at.certificate-requires-clause-two c).After-deref) c.in-Cycle.cycle
-    (subst (λ (es : List Edge). IsNegativeCycle es c.in-Cycle.cycle) (edges_are d) plan_cycle) (subst (λ (es : List Edge). IsSimple es c.in-Cycle.cycle) (edges_are d) plan_simple))
+    (subst (λ (es : List Edge). IsNegativeRing es c.in-Cycle.cycle) (edges_are d) plan_cycle) (subst (λ (es : List Edge). IsSimple es c.in-Cycle.cycle) (edges_are d) plan_simple))
 
 pub returns-in-Cycle : goal.returns-in-Cycle
 returns-in-Cycle c =
     let d = (goal.at.returns-in-Cycle c).After-deref-3 in
-    let plan_cycle : IsNegativeCycle c.deref-3.result.now c.in-Cycle.cycle = rw c.in-Cycle.is at c.in_ok-cycle.ensures.cycle in
+    let plan_cycle : IsNegativeRing c.deref-3.result.now c.in-Cycle.cycle = rw c.in-Cycle.is at c.in_ok-cycle.ensures.cycle in
     let plan_simple : IsSimple c.deref-3.result.now c.in-Cycle.cycle = rw c.in-Cycle.is at c.in_ok-cycle.ensures.simple in
     certified _ _ _ _ _ _ (read (goal.at.returns-in-Cycle c).After-deref) c.args.number c.in-Cycle.cycle c.in_ok-cert-in-Cycle.cert c.certified_question_holds.ensures c.requires.fits
-    (subst (λ (es : List Edge). IsNegativeCycle es c.in-Cycle.cycle) (edges_are d) plan_cycle) (subst (λ (es : List Edge). IsSimple es c.in-Cycle.cycle) (edges_are d) plan_simple)
+    (subst (λ (es : List Edge). IsNegativeRing es c.in-Cycle.cycle) (edges_are d) plan_cycle) (subst (λ (es : List Edge). IsSimple es c.in-Cycle.cycle) (edges_are d) plan_simple)
     c.in_ok-cert-in-Cycle.ensures.query c.in_ok-cert-in-Cycle.ensures.question c.in_ok-cert-in-Cycle.ensures.value
     (c.in_ok-cert-in-Cycle.ensures.steps
     ∙ same_steps _ _ _ _ _ _ (c.deref-in-Cycle.ensures.value ∙ sym c.deref.ensures.value)

@@ -1,5 +1,5 @@
 use Rattle.std.proofs.Common.{◌+◌, length}
-use Rattle.diff_bounds.specs.Relaxing.{IsSound, IsAbove, DoneBefore}
+use Rattle.diff_bounds.specs.inner.Relaxing.{IsSound, IsAbove, DoneBefore}
 use Rattle.diff_bounds.proofs.relaxing.Search.relax_all.Given as goal
 
 abbrev pub invariant-loop-number : goal.invariant-loop-number

@@ -2,7 +2,7 @@ use Rattle.std.proofs.Common.{◌≡◌, ◌∙◌, ◌<◌, ap, arith, length, 
 use Rattle.std.proofs.lemmas.Grind.{common_steps}
 use Rattle.std.proofs.lemmas.List.{length-append}
 use Rattle.std.specs.Prelude.{slice_get}
-use Rattle.sort_formula.specs.Standing.{tables_outside}
+use Rattle.sort_formula.specs.inner.Standing.{tables_outside}
 use Rattle.lint_base.proofs.Lists.{get_before, slice_get_last}
 use Rattle.sort_formula.proofs.Standing.{tables_inside}
 use Rattle.sort_formula.proofs.outside.Outside.+look_up.Goals as goal

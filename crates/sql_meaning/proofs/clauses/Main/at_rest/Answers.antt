@@ -2,7 +2,7 @@ use Rattle.std.proofs.Common.{◌≡◌, ◌&&◌, true, arith}
 use Rattle.std.proofs.lemmas.Grind.{common_steps}
 use Rattle.std.proofs.lemmas.Result.{err_from_is_err_and}
 use Rattle.lint_core.specs.Asked.{conjuncts_with, conjuncts_without}
-use Rattle.lint_core.specs.Question.{is_binding_without}
+use Rattle.lint_core.specs.Forms.{is_binding_without}
 use Rattle.sql_meaning.proofs.ClauseParts.{rest_gives, rest_stops}
 use Rattle.sql_meaning.proofs.clauses.Main.at_rest.Goals as goal
 use Rattle.sql_meaning.proofs.clauses.Main.at_rest.Goals.{then-others_fit, else-others_fit}

@@ -2,7 +2,7 @@
 use Rattle.std.specs.Prelude.{◌≡◌, ◌≢◌, ◌⊎◌, ℕ, ℤ, pos, negsuc, ◌+ℤ◌, ◌≤ℤ◌, ◌<ℤ◌, ◌+◌, ◌*◌, ◌^◌, ◌<◌, ◌≤◌, Bool, true, false, List, [], ◌∷◌, length, sum_by, Option, Some, None, slice_index_or}
 use Rattle.diff_bounds.specs.declared.system.Edge.{Edge}
 use Rattle.diff_bounds.specs.System.{value_in, Holds}
-use Rattle.diff_bounds.specs.Cycles.{edge_at, IsNegativeCycle, IsSimple}
+use Rattle.diff_bounds.specs.Rings.{edge_at, IsNegativeRing, IsSimple}
 use Rattle.diff_bounds.specs.declared.relaxing.Search.{Search}
 
 -- the edge that last lowered the variable, if any
@@ -109,8 +109,8 @@ pub record Closes (edges : List Edge) (reasons : List (Option ℕ)) (number : �
   pub reason : reason_of reasons (edge_at edges number).left ≡ Some number
   pub back : (es : List ℕ) × ComesTo edges reasons (edge_at edges number).left (edge_at edges number).right es
 
--- a cycle that is an answer
-pub record IsAnswerCycle (edges : List Edge) (vars : ℕ) (cycle : List ℕ) : Type 0 where
-  pub negative : IsNegativeCycle edges cycle
-  pub short : length cycle ≤ vars
-  pub simple : IsSimple edges cycle
+-- a ring that is an answer
+pub record IsAnswerRing (edges : List Edge) (vars : ℕ) (ring : List ℕ) : Type 0 where
+  pub negative : IsNegativeRing edges ring
+  pub short : length ring ≤ vars
+  pub simple : IsSimple edges ring

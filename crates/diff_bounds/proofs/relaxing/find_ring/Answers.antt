@@ -1,8 +1,8 @@
 use Rattle.std.proofs.Common.{◌≡◌, ◌+◌, ◌∷◌, ◌++◌, [], List, ℕ, length, subst, sym, ◌∙◌, ap, arith}
-use Rattle.diff_bounds.specs.Relaxing.{IsSettled}
+use Rattle.diff_bounds.specs.inner.Relaxing.{IsSettled}
 use Rattle.diff_bounds.proofs.Closing.{closes}
 use Rattle.diff_bounds.proofs.Marking.{settled_more, ends_more, marked_ends, all_end, written_back}
-use Rattle.diff_bounds.proofs.relaxing.find_cycle.Goals as goal
+use Rattle.diff_bounds.proofs.relaxing.find_ring.Goals as goal
 
 pub loop-root-preserved-then-is_some : goal.loop-root-preserved-then-is_some
 loop-root-preserved-then-is_some c =
@@ -21,7 +21,7 @@ pub returns-in-Some : goal.returns-in-Some
 returns-in-Some c =
     let back = c.in_ok-trace.ensures in
     let pushed = c.in_ok-push.ensures.items in
-    let empty = c.new-cycle.ensures.items in
+    let empty = c.new-ring.ensures.items in
     let is : c.trace.new.chain.items ≡ c.in-Some.number ∷ back.0 = back.1 ∙ ap (λ (xs : List ℕ). xs ++ back.0) (pushed ∙ ap (λ (xs : List ℕ). xs ++ c.in-Some.number ∷ []) empty) in
     rw is (closes _ _ _ _ c.requires.reasons.1 c.requires.ends c.in-Some.number back.0 c.in-Some.ensures.reason back.2)
 

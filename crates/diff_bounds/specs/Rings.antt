@@ -27,10 +27,10 @@ abbrev pub left_ends : List Edge → List ℕ → List ℕ
 left_ends edges chain = map (λ e. (edge_at edges e).left) chain
 
 -- a closed chain of edges of the system with a negative sum
-pub record IsNegativeCycle (edges : List Edge) (cycle : List ℕ) : Type 0 where
-  pub numbers : All (λ e. e < length edges) cycle
-  pub closed : IsClosed edges cycle
-  pub negative : sum_of edges cycle <ℤ pos 0
+pub record IsNegativeRing (edges : List Edge) (ring : List ℕ) : Type 0 where
+  pub numbers : All (λ e. e < length edges) ring
+  pub closed : IsClosed edges ring
+  pub negative : sum_of edges ring <ℤ pos 0
 
 -- no two edges of the chain have the same left end
 abbrev pub IsSimple : List Edge → List ℕ → Type 0

@@ -1,6 +1,6 @@
 use Rattle.std.proofs.Common.{◌≡◌, ◌<◌, ℕ, List, length}
-use Rattle.diff_bounds.specs.Relaxing.{Ends, IsSettled}
-use Rattle.diff_bounds.proofs.relaxing.find_cycle.Given as goal
+use Rattle.diff_bounds.specs.inner.Relaxing.{Ends, IsSettled}
+use Rattle.diff_bounds.proofs.relaxing.find_ring.Given as goal
 
 abbrev pub invariant-loop-root : goal.invariant-loop-root
 invariant-loop-root l = record {
