@@ -21,6 +21,7 @@ pub record WholeSubquery : Type 0 where
   pub item : Term
   pub place : Span
 
+-- as lint_core lists it: of the block the condition alone
 abbrev pub without_entries : WholeSubquery → Subquery
 without_entries s = record { tables = s.tables; cond = (out-Block s.block).cond; item = s.item; place = s.place }
 
