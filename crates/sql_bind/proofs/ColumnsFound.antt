@@ -6,7 +6,7 @@ use Rattle.lint_core.specs.declared.schema.Table.{Table}
 use Rattle.sql_bind.specs.declared.terms.Found.{Found}
 use Rattle.sql_bind.specs.declared.terms.Found.TheVariants.{Nowhere, Once, Twice}
 use Rattle.sql_bind.specs.Names.{Level, Place, with_place, column_place, entry_place, columns_at, in_entry, at_entry, find_qualified}
-use Rattle.sql_bind.specs.Found.{found_among, found_after, found_with}
+use Rattle.sql_bind.specs.inner.Found.{found_among, found_after, found_with}
 
 pub found_step : (schema : List Table) (found : Found) (entry : ℕ) (column : Option ℕ) (places : List (Place schema)) → found_after (found_with found entry column) places ≡ found_after found (with_place schema entry column places)
 found_step schema found entry None places = refl

@@ -8,7 +8,7 @@ use Rattle.sql_bind.specs.declared.levels.Levels.TheVariants as levels
 use Rattle.sql_bind.specs.declared.levels.Levels.TheOpen.{Levels-F}
 use Rattle.sql_bind.specs.declared.levels.Levels.TheFolds.{fold-roll-Levels}
 use Rattle.sql_bind.specs.Names.{Level, level_tables}
-use Rattle.sql_bind.specs.Levels.{levels_step, levels_seen}
+use Rattle.sql_bind.specs.inner.Levels.{levels_step, levels_seen}
 
 pub seen_inside : (entries : Bor (List Entry)) (first end : ℕ) (outer : Bor Levels) → levels_seen (levels.Inside entries first end outer) ≡ record { entries = entries.now; first = first; end = end } ∷ levels_seen outer.now
 seen_inside entries first end outer = ap levels_seen (sym (levels.rolls-Inside entries first end outer)) ∙ fold-roll-Levels (List Level) levels_step (Levels-F.Inside entries first end outer)

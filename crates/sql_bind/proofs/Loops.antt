@@ -10,7 +10,7 @@ use Rattle.lint_base.specs.declared.place.Refusal.{Refusal}
 use Rattle.lint_base.specs.declared.place.TextStop.{TextStop}
 use Rattle.lint_base.specs.declared.place.TextStop.TheVariants as stop
 use Rattle.sql_bind.specs.Bound.{Bound, and_then, Gives}
-use Rattle.sql_bind.specs.NameTables.{name_place}
+use Rattle.sql_bind.specs.inner.NameTables.{name_place}
 use Rattle.sql_bind.proofs.NameTables.{name_place-map}
 
 pub then_then : {A B C : Type 0} (b : Bound A) (f : A → Bound B) (g : B → Bound C) → and_then (and_then b f) g ≡ and_then b (λ a. and_then (f a) g)

@@ -10,7 +10,7 @@ use Rattle.sql_bind.specs.Bound.{Bound, and_then, all_bound}
 use Rattle.sql_bind.specs.Names.{Level}
 use Rattle.sql_bind.specs.Conditions.{CondMeaning, EntryMeaning, SelectMeaning, cond_step}
 use Rattle.sql_bind.specs.Selects.{entry_step, select_step, bind_cond}
-use Rattle.sql_bind.specs.Meanings.{cond_meaning}
+use Rattle.sql_bind.specs.inner.Meanings.{cond_meaning}
 
 module _ (schema : List Table) (levels : List Level) where
   at_levels : (parts : List CondTree) → map (λ (part : CondMeaning). part levels) (map (cond_meaning schema) parts) ≡ map (bind_cond schema levels) parts

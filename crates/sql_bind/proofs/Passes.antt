@@ -18,10 +18,10 @@ use Rattle.lint_core.specs.declared.schema.Column.{Column}
 use Rattle.lint_core.specs.declared.schema.Table.{Table}
 use Rattle.sql_bind.specs.Bound.{Bound, refused, too_many, and_then, Gives}
 use Rattle.sql_bind.specs.Names.{column_place, table_place}
-use Rattle.sql_bind.specs.NameTables.{name_place}
+use Rattle.sql_bind.specs.inner.NameTables.{name_place}
 use Rattle.sql_bind.specs.Columns.{rules_of, is_not_null, is_primary_with, is_marked, bind_column, bind_columns, bind_outline, bind_outlines}
 use Rattle.sql_bind.specs.Keys.{bind_name, bind_names, is_key_rule}
-use Rattle.sql_bind.specs.Passes.{rules_in, behind, new_column, column_step, new_outline, outline_step, name_step}
+use Rattle.sql_bind.specs.inner.Passes.{rules_in, behind, new_column, column_step, new_outline, outline_step, name_step}
 use Rattle.sql_bind.proofs.Loops.{IsStep, then_then, drop_next, is_there, first_stops}
 
 pub rules_of-cons : (e : Element) (elements : List Element) → rules_of (e ∷ elements) ≡ rules_in e ++ rules_of elements

@@ -17,7 +17,7 @@ use Rattle.sql_bind.specs.declared.levels.Levels.{Levels}
 use Rattle.sql_bind.specs.declared.levels.Levels.TheVariants as levels
 use Rattle.sql_bind.specs.declared.levels.Levels.TheOpen.{Levels-F}
 use Rattle.sql_bind.specs.declared.levels.Levels.TheFolds.{fold-roll-Levels}
-use Rattle.sql_bind.specs.Levels.{levels_step, levels_seen}
+use Rattle.sql_bind.specs.inner.Levels.{levels_step, levels_seen}
 use Rattle.sql_bind.specs.Names.{Level, whole_level}
 use Rattle.sql_bind.specs.Selects.{bind_cond}
 use Rattle.sql_bind.proofs.LevelTables.{seen_inside}
@@ -25,7 +25,7 @@ use Rattle.sql_bind.specs.declared.keys.NamedKeys.{NamedKeys}
 use Rattle.sql_bind.specs.Bound.{Bound, and_then, Gives}
 use Rattle.sql_bind.specs.Columns.{rules_of}
 use Rattle.sql_bind.specs.Schemas.{Constraints, rules_at, bind_rule, bind_rules, bind_tables, with_constraints, no_constraints}
-use Rattle.sql_bind.specs.Passes.{behind, keys_named, all_keys, bind_table}
+use Rattle.sql_bind.specs.inner.Passes.{behind, keys_named, all_keys, bind_table}
 use Rattle.sql_bind.proofs.Loops.{IsStep, drop_next, passes_on}
 
 module _ (trees : List CreateTable) where

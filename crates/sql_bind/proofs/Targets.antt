@@ -14,7 +14,7 @@ use Rattle.sql_bind.specs.declared.keys.NamedKeys.{NamedKeys}
 use Rattle.sql_bind.specs.Bound.{refused}
 use Rattle.sql_bind.specs.Names.{column_place, table_place}
 use Rattle.sql_bind.specs.Schemas.{rules_at, named_columns, target_columns, with_table, with_target}
-use Rattle.sql_bind.specs.Passes.{keys_named, all_keys, targets_named, referred}
+use Rattle.sql_bind.specs.inner.Passes.{keys_named, all_keys, targets_named, referred}
 use Rattle.sql_bind.proofs.Loops.{drop_next}
 
 -- the columns so far, and those of the rest

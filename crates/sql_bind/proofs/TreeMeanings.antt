@@ -10,7 +10,7 @@ use Rattle.sql_tree.specs.declared.select.EntryTree.{EntryTree, out-EntryTree, f
 use Rattle.sql_tree.specs.declared.select.SelectTree.{SelectTree, out-SelectTree, fold_out-SelectTree, map-SelectTree}
 use Rattle.sql_bind.specs.Conditions.{CondMeaning, EntryMeaning, SelectMeaning, cond_step}
 use Rattle.sql_bind.specs.Selects.{entry_step, select_step}
-use Rattle.sql_bind.specs.Meanings.{cond_meaning, entry_meaning, select_meaning, filter_meaning}
+use Rattle.sql_bind.specs.inner.Meanings.{cond_meaning, entry_meaning, select_meaning, filter_meaning}
 
 module _ (schema : List Table) where
   -- an entry's tree means its parts

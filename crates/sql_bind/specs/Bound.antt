@@ -13,7 +13,7 @@ Bound A = Result A Refusal
 abbrev pub refused : {A : Type 0} → Fault → Span → Bound A
 refused fault at = Err (record { fault = fault; span = at; count = 0 })
 
--- there is one more than may be, which makes so many
+-- refused: one more than the limit; the count is limit + 1
 abbrev pub too_many : {A : Type 0} → ℕ → Span → Bound A
 too_many count at = Err (record { fault = TooMany; span = at; count = count })
 

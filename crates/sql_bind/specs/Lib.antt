@@ -8,9 +8,4 @@ pub mod Columns
 pub mod Keys
 pub mod Schemas
 pub mod Shape
-pub mod NameTables
-pub mod Passes
-pub mod Levels
-pub mod Found
-pub mod Meanings
-pub mod Items
+pub mod inner

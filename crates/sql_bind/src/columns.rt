@@ -3,7 +3,7 @@ ghost use Rattle.std.specs.Prelude.{◌≡◌, [], length, map, IfOk};
 ghost use Rattle.std.specs.List.{list_any};
 ghost use Rattle.std.specs.Str.{bytes_eq};
 ghost use Rattle.sql_bind.specs.Bound.{Gives};
-ghost use Rattle.sql_bind.specs.Passes.{rules_in, new_column, column_step};
+ghost use Rattle.sql_bind.specs.inner.Passes.{rules_in, new_column, column_step};
 ghost use Rattle.sql_bind.specs.Columns.{rules_of, bind_type, is_not_null, is_primary_with, is_marked, bind_columns};
 
 use crate::bound::{refused, too_many};

@@ -4,8 +4,8 @@ ghost use Rattle.sql_tree.specs.declared.select.CondTree.TheOpen.{CondTree-F};
 ghost use Rattle.sql_bind.specs.Bound.{Gives, all_bound};
 ghost use Rattle.sql_bind.specs.Conditions.{cond_step};
 ghost use Rattle.sql_bind.specs.Selects.{conjunction, bind_on, bind_ons, bind_filter, bind_cond, bind_select};
-ghost use Rattle.sql_bind.specs.Levels.{levels_seen};
-ghost use Rattle.sql_bind.specs.Meanings.{GivesOption, option_list, entry_meaning, filter_meaning, select_meaning};
+ghost use Rattle.sql_bind.specs.inner.Levels.{levels_seen};
+ghost use Rattle.sql_bind.specs.inner.Meanings.{GivesOption, option_list, entry_meaning, filter_meaning, select_meaning};
 
 use crate::levels::Levels;
 use crate::lists::with;

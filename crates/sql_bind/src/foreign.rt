@@ -6,7 +6,7 @@ ghost use Rattle.lint_core.specs.Schema.{are_paired};
 ghost use Rattle.sql_bind.specs.Bound.{Gives};
 ghost use Rattle.sql_bind.specs.Names.{table_place};
 ghost use Rattle.sql_bind.specs.Schemas.{named_columns, with_target, bind_foreign};
-ghost use Rattle.sql_bind.specs.Passes.{all_keys, targets_named, is_named_key, referred};
+ghost use Rattle.sql_bind.specs.inner.Passes.{all_keys, targets_named, is_named_key, referred};
 
 use crate::bound::{counted, refused};
 use crate::keys::{NamedKeys, bind_names};

@@ -5,7 +5,7 @@ ghost use Rattle.lint_core.specs.Schema.{is_within, are_columns_of};
 ghost use Rattle.sql_bind.specs.Bound.{Gives};
 ghost use Rattle.sql_bind.specs.Columns.{rules_of};
 ghost use Rattle.sql_bind.specs.Keys.{bind_name, bind_names, good_names, is_key_rule, key_rules, primary_key, unique_columns, option_list};
-ghost use Rattle.sql_bind.specs.Passes.{rules_in, behind, keys_named};
+ghost use Rattle.sql_bind.specs.inner.Passes.{rules_in, behind, keys_named};
 
 use crate::bound::{counted, refused};
 use crate::terms::column_place;

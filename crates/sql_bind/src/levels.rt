@@ -2,7 +2,7 @@
 ghost use Rattle.std.specs.Prelude.{◌≡◌, ◌∷◌, ◌<◌, ◌+◌, ◌-◌, IfOk, IfErr, length, take, drop};
 ghost use Rattle.lint_core.specs.Fits.{tables_of, at_entry};
 ghost use Rattle.sql_bind.specs.Names.{level_tables, whole_level};
-ghost use Rattle.sql_bind.specs.Levels.{levels_seen};
+ghost use Rattle.sql_bind.specs.inner.Levels.{levels_seen};
 
 use crate::bound::next;
 use lint_base::NoMemory;

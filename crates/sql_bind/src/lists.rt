@@ -1,6 +1,6 @@
 //! Lists that are put together.
 ghost use Rattle.std.specs.Prelude.{◌≡◌, ◌++◌, IfOk};
-ghost use Rattle.sql_bind.specs.Meanings.{option_list};
+ghost use Rattle.sql_bind.specs.inner.Meanings.{option_list};
 
 use lint_base::{Items, NoMemory};
 

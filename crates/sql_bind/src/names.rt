@@ -1,6 +1,6 @@
 //! Tables of names, which are looked up by a hash.
 ghost use Rattle.std.specs.Prelude.{◌≡◌, [], not, is_some, IfOk, OnOk, OnErr};
-ghost use Rattle.sql_bind.specs.NameTables.{name_place, with_name};
+ghost use Rattle.sql_bind.specs.inner.NameTables.{name_place, with_name};
 
 use indexmap::IndexSet;
 use lint_base::{NoMemory, Str};

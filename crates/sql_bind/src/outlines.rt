@@ -3,7 +3,7 @@ ghost use Rattle.std.specs.Prelude.{◌≡◌, [], IfOk};
 ghost use Rattle.sql_bind.specs.Bound.{Gives};
 ghost use Rattle.sql_bind.specs.Names.{table_place};
 ghost use Rattle.sql_bind.specs.Columns.{bind_outlines};
-ghost use Rattle.sql_bind.specs.Passes.{new_outline, outline_step};
+ghost use Rattle.sql_bind.specs.inner.Passes.{new_outline, outline_step};
 
 use crate::bound::{refused, too_many};
 use crate::columns::bind_columns;

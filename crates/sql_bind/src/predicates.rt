@@ -9,7 +9,7 @@ ghost use Rattle.lint_core.specs.Fits.{term_fits};
 ghost use Rattle.sql_bind.specs.Bound.{Gives};
 ghost use Rattle.sql_bind.specs.Names.{level_tables};
 ghost use Rattle.sql_bind.specs.Conditions.{matching, between, joined, tree_span, in_list, one_column, compares_selected, bind_values, cond_step};
-ghost use Rattle.sql_bind.specs.Levels.{levels_seen};
+ghost use Rattle.sql_bind.specs.inner.Levels.{levels_seen};
 
 use crate::bound::refused;
 use crate::levels::Levels;

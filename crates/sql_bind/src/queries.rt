@@ -6,8 +6,8 @@ ghost use Rattle.sql_tree.specs.declared.select.OrderTree.TheVariants as key;
 ghost use Rattle.sql_bind.specs.Bound.{Gives};
 ghost use Rattle.sql_bind.specs.Conditions.{Selected};
 ghost use Rattle.sql_bind.specs.Queries.{key_of, has_alias, bind_column_key, bind_key, bind_keys, limited_query, bind_query};
-ghost use Rattle.sql_bind.specs.Meanings.{GivesOption, option_list};
-ghost use Rattle.sql_bind.specs.Items.{item_at};
+ghost use Rattle.sql_bind.specs.inner.Meanings.{GivesOption, option_list};
+ghost use Rattle.sql_bind.specs.inner.Items.{item_at};
 ghost use Rattle.sql_bind.specs.Shape.{query_shaped};
 
 use crate::bound::{refused, too_many};

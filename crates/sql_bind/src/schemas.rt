@@ -6,7 +6,7 @@ ghost use Rattle.sql_bind.specs.Names.{whole_level};
 ghost use Rattle.sql_bind.specs.Selects.{bind_cond};
 ghost use Rattle.sql_bind.specs.Shape.{schema_shaped};
 ghost use Rattle.sql_bind.specs.Schemas as spec;
-ghost use Rattle.sql_bind.specs.Passes.{behind, all_keys, bind_table, with_all};
+ghost use Rattle.sql_bind.specs.inner.Passes.{behind, all_keys, bind_table, with_all};
 
 use crate::bound::{counted, refused, too_many};
 use crate::conditions::bind_condition;

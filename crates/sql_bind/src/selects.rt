@@ -7,8 +7,8 @@ ghost use Rattle.sql_bind.specs.Bound.{Gives};
 ghost use Rattle.sql_bind.specs.Names.{columns_of, columns_at, table_place, entry_place};
 ghost use Rattle.sql_bind.specs.Conditions.{tree_span};
 ghost use Rattle.sql_bind.specs.Selects.{aliased_span, visible_name, entry_span, of_table, bind_entry, bind_entries, column_items, star_items, at_most_256, bind_item, bind_items, entry_items};
-ghost use Rattle.sql_bind.specs.Levels.{levels_seen};
-ghost use Rattle.sql_bind.specs.Meanings.{entry_meaning};
+ghost use Rattle.sql_bind.specs.inner.Levels.{levels_seen};
+ghost use Rattle.sql_bind.specs.inner.Meanings.{entry_meaning};
 
 use crate::bound::{counted, refused, too_many};
 use crate::levels::Levels;

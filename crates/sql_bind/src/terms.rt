@@ -5,8 +5,8 @@ ghost use Rattle.sql_bind.specs.Bound.{Gives};
 ghost use Rattle.lint_core.specs.Fits.{term_kind, term_fits};
 ghost use Rattle.sql_bind.specs.Names.{table_place, column_place, entry_place, columns_of, columns_at, places_named, find_unqualified, find_qualified, in_entry, find_column, level_tables};
 ghost use Rattle.sql_bind.specs.Terms as terms;
-ghost use Rattle.sql_bind.specs.Found.{found_among, found_with};
-ghost use Rattle.sql_bind.specs.Levels.{levels_seen};
+ghost use Rattle.sql_bind.specs.inner.Found.{found_among, found_with};
+ghost use Rattle.sql_bind.specs.inner.Levels.{levels_seen};
 
 use crate::bound::{counted, next, refused};
 use crate::levels::{Levels, seen};

@@ -1,6 +1,6 @@
 use Rattle.std.proofs.Common.{[], Ok, sym, ap, ◌∙◌}
 use Rattle.sql_bind.specs.Columns.{rules_of, bind_columns}
-use Rattle.sql_bind.specs.Passes.{column_step}
+use Rattle.sql_bind.specs.inner.Passes.{column_step}
 use Rattle.sql_bind.proofs.Loops.{goes_on, stops, ends}
 use Rattle.sql_bind.proofs.Passes.{column_steps}
 use Rattle.sql_bind.proofs.columns.bind_columns.Goals as goal

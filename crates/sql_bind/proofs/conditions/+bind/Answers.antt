@@ -2,7 +2,7 @@ use Rattle.std.proofs.Common.{rules, ◌≡◌, ◌∙◌, ap, sym, map, Ok}
 use Rattle.lint_core.specs.declared.condition.Cond.TheVariants.{And, Or}
 use Rattle.sql_bind.specs.Bound.{Gives, and_then, all_bound}
 use Rattle.sql_bind.specs.Selects.{bind_cond}
-use Rattle.sql_bind.specs.Levels.{levels_seen}
+use Rattle.sql_bind.specs.inner.Levels.{levels_seen}
 use Rattle.sql_bind.proofs.Parts.{and_bound, or_bound, and_made, or_made}
 use Rattle.sql_bind.proofs.conditions.+bind.Goals as goal
 

@@ -1,8 +1,8 @@
 use Rattle.std.proofs.Common.{◌≡◌, ◌++◌, drop, map, Ok}
 use Rattle.sql_bind.specs.Bound.{and_then, all_bound}
 use Rattle.sql_bind.specs.Selects.{bind_cond, bind_ons}
-use Rattle.sql_bind.specs.Levels.{levels_seen}
-use Rattle.sql_bind.specs.Meanings.{entry_meaning}
+use Rattle.sql_bind.specs.inner.Levels.{levels_seen}
+use Rattle.sql_bind.specs.inner.Meanings.{entry_meaning}
 use Rattle.sql_bind.proofs.conditions.+bind.Given as goal
 
 -- those bound so far, and then the rest

@@ -1,5 +1,5 @@
 use Rattle.std.proofs.Common.{◌≡◌, ◌++◌, take}
-use Rattle.sql_bind.specs.Passes.{behind}
+use Rattle.sql_bind.specs.inner.Passes.{behind}
 use Rattle.sql_bind.proofs.keys.add_each.Given as goal
 
 abbrev pub invariant-loop-rule : goal.invariant-loop-rule

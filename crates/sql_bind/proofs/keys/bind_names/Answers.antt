@@ -1,6 +1,6 @@
 use Rattle.std.proofs.Common.{[]}
 use Rattle.sql_bind.specs.Keys.{bind_names}
-use Rattle.sql_bind.specs.Passes.{name_step}
+use Rattle.sql_bind.specs.inner.Passes.{name_step}
 use Rattle.sql_bind.proofs.Loops.{goes_on, stops, ends}
 use Rattle.sql_bind.proofs.Passes.{name_steps, name_added, name_refused}
 use Rattle.sql_bind.proofs.keys.bind_names.Goals as goal

@@ -1,6 +1,6 @@
 use Rattle.std.proofs.Common.{arith}
 use Rattle.sql_bind.specs.Keys.{key_rules}
-use Rattle.sql_bind.specs.Passes.{behind}
+use Rattle.sql_bind.specs.inner.Passes.{behind}
 use Rattle.sql_bind.proofs.Passes.{keys_full, keys_end}
 use Rattle.sql_bind.proofs.keys.key_rules.Goals as goal
 

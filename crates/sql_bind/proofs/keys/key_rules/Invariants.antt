@@ -1,7 +1,7 @@
 use Rattle.std.proofs.Common.{◌≡◌, ◌≤◌, ◌++◌, length, take, drop}
 use Rattle.std.specs.List.{filter}
 use Rattle.sql_bind.specs.Keys.{is_key_rule, key_rules}
-use Rattle.sql_bind.specs.Passes.{behind}
+use Rattle.sql_bind.specs.inner.Passes.{behind}
 use Rattle.sql_bind.proofs.keys.key_rules.Given as goal
 
 -- the keys so far, with those of the rest, are all, of which the first 1,000 count

@@ -1,5 +1,5 @@
 use Rattle.sql_bind.specs.Columns.{rules_of}
-use Rattle.sql_bind.specs.Passes.{behind}
+use Rattle.sql_bind.specs.inner.Passes.{behind}
 use Rattle.sql_bind.proofs.Passes.{rules_next, rules_end}
 use Rattle.sql_bind.proofs.keys.rules_of.Goals as goal
 

@@ -1,7 +1,7 @@
 use Rattle.std.proofs.Common.{◌≡◌, ◌++◌, drop}
 use Rattle.std.specs.List.{filter_map}
 use Rattle.sql_bind.specs.Keys.{unique_columns}
-use Rattle.sql_bind.specs.Passes.{behind}
+use Rattle.sql_bind.specs.inner.Passes.{behind}
 use Rattle.sql_bind.proofs.keys.unique_keys.Given as goal
 
 abbrev pub invariant-loop-rule : goal.invariant-loop-rule

@@ -1,6 +1,6 @@
 use Rattle.std.proofs.Common.{[]}
 use Rattle.sql_bind.specs.Columns.{bind_outlines}
-use Rattle.sql_bind.specs.Passes.{outline_step}
+use Rattle.sql_bind.specs.inner.Passes.{outline_step}
 use Rattle.sql_bind.proofs.Loops.{goes_on, stops, ends}
 use Rattle.sql_bind.proofs.Passes.{outline_steps}
 use Rattle.sql_bind.proofs.outlines.bind_outlines.Goals as goal

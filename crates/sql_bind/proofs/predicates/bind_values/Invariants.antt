@@ -1,5 +1,5 @@
 use Rattle.std.proofs.Common.{◌≡◌, [], length}
-use Rattle.sql_bind.specs.Levels.{levels_seen}
+use Rattle.sql_bind.specs.inner.Levels.{levels_seen}
 use Rattle.sql_bind.proofs.Values.{values_after}
 use Rattle.sql_bind.proofs.predicates.bind_values.Given as goal
 

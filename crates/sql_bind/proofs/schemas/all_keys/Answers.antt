@@ -1,5 +1,5 @@
 use Rattle.std.proofs.Common.{ap, ◌∙◌}
-use Rattle.sql_bind.specs.Passes.{behind, keys_named, all_keys}
+use Rattle.sql_bind.specs.inner.Passes.{behind, keys_named, all_keys}
 use Rattle.sql_bind.proofs.Tables.{keys_next, keys_over}
 use Rattle.sql_bind.proofs.schemas.all_keys.Goals as goal
 

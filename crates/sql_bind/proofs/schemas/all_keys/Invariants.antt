@@ -1,5 +1,5 @@
 use Rattle.std.proofs.Common.{◌≡◌, ◌++◌, drop}
-use Rattle.sql_bind.specs.Passes.{all_keys}
+use Rattle.sql_bind.specs.inner.Passes.{all_keys}
 use Rattle.sql_bind.proofs.schemas.all_keys.Given as goal
 
 abbrev pub invariant-loop-number : goal.invariant-loop-number

@@ -1,6 +1,6 @@
 use Rattle.std.proofs.Common.{◌≡◌, [], length, map}
 use Rattle.sql_bind.specs.Selects.{bind_entries}
-use Rattle.sql_bind.specs.Meanings.{entry_meaning}
+use Rattle.sql_bind.specs.inner.Meanings.{entry_meaning}
 use Rattle.sql_bind.proofs.selects.bind_entries.Given as goal
 
 abbrev pub invariant-loop-tree : goal.invariant-loop-tree

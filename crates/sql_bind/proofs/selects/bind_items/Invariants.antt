@@ -1,7 +1,7 @@
 use Rattle.std.proofs.Common.{◌≡◌, ◌++◌, length, Ok}
 use Rattle.sql_bind.specs.Bound.{and_then}
 use Rattle.sql_bind.specs.Selects.{bind_items}
-use Rattle.sql_bind.specs.Levels.{levels_seen}
+use Rattle.sql_bind.specs.inner.Levels.{levels_seen}
 use Rattle.sql_bind.proofs.selects.bind_items.Given as goal
 
 abbrev pub invariant-loop-tree : goal.invariant-loop-tree

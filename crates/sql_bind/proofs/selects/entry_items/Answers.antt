@@ -2,7 +2,7 @@ use Rattle.std.proofs.Common.{◌≡◌, ◌∙◌, ap, sym, subst}
 use Rattle.sql_bind.specs.Bound.{Gives}
 use Rattle.sql_bind.specs.Names.{columns_at}
 use Rattle.sql_bind.specs.Selects.{column_items, at_most_256, entry_items}
-use Rattle.sql_bind.specs.Levels.{levels_seen}
+use Rattle.sql_bind.specs.inner.Levels.{levels_seen}
 use Rattle.sql_bind.proofs.selects.entry_items.Goals as goal
 
 pub returns : goal.returns

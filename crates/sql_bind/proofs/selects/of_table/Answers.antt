@@ -4,7 +4,7 @@ use Rattle.sql_tree.specs.declared.select.EntryTree.{out-EntryTree}
 use Rattle.sql_bind.specs.Bound.{Gives, refused}
 use Rattle.sql_bind.specs.Names.{entry_place, table_place}
 use Rattle.sql_bind.specs.Selects.{visible_name, of_table}
-use Rattle.sql_bind.specs.Meanings.{entry_meaning}
+use Rattle.sql_bind.specs.inner.Meanings.{entry_meaning}
 use Rattle.sql_bind.proofs.Entries.{of_table_there, entry_made}
 use Rattle.sql_bind.proofs.TreeMeanings.{entry_is}
 use Rattle.sql_bind.proofs.selects.of_table.Goals as goal

@@ -1,7 +1,7 @@
 use Rattle.std.proofs.Common.{◌≡◌, ◌∙◌, ap, sym, subst}
 use Rattle.sql_bind.specs.Bound.{Gives}
 use Rattle.sql_bind.specs.Names.{find_qualified}
-use Rattle.sql_bind.specs.Levels.{levels_seen}
+use Rattle.sql_bind.specs.inner.Levels.{levels_seen}
 use Rattle.sql_bind.proofs.LevelTables.{seen_inside}
 use Rattle.sql_bind.proofs.ColumnsFound.{qualified_in}
 use Rattle.sql_bind.proofs.terms.+find_qualified.Goals as goal

@@ -1,6 +1,6 @@
 use Rattle.std.proofs.Common.{◌≡◌, length}
 use Rattle.sql_bind.specs.Names.{places_named}
-use Rattle.sql_bind.specs.Found.{found_among, found_after}
+use Rattle.sql_bind.specs.inner.Found.{found_among, found_after}
 use Rattle.sql_bind.proofs.terms.found_among.Given as goal
 
 -- what was found, with what the rest has, is what all have

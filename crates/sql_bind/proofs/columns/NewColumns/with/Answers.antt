@@ -1,7 +1,7 @@
 use Rattle.std.proofs.Common.{◌∷◌, [], ◌++◌, length, Ok, sym, ap, ◌∙◌}
 use Rattle.lint_core.specs.declared.schema.Column.{Column}
 use Rattle.sql_bind.specs.Columns.{rules_of}
-use Rattle.sql_bind.specs.Passes.{new_column, column_step}
+use Rattle.sql_bind.specs.inner.Passes.{new_column, column_step}
 use Rattle.sql_bind.proofs.Loops.{gives_refusal, passes_on}
 use Rattle.sql_bind.proofs.Passes.{column_taken, column_refused, column_added}
 use Rattle.sql_bind.proofs.columns.NewColumns.with.Goals as goal

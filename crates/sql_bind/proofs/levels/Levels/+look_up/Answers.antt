@@ -2,7 +2,7 @@ use Rattle.std.proofs.Common.{◌≡◌, ◌∙◌, ◌<◌, sym, arith, length}
 use Rattle.std.proofs.lemmas.Grind.{common_steps}
 use Rattle.lint_core.specs.Fits.{tables_of}
 use Rattle.sql_bind.specs.Names.{level_tables}
-use Rattle.sql_bind.specs.Levels.{levels_seen}
+use Rattle.sql_bind.specs.inner.Levels.{levels_seen}
 use Rattle.lint_core.proofs.LevelTables.{length_inside, at_outer, at_own}
 use Rattle.sql_bind.proofs.LevelTables.{tables_inside}
 use Rattle.sql_bind.proofs.levels.Levels.+look_up.Goals as goal

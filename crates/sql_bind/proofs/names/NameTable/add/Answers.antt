@@ -1,5 +1,5 @@
 use Rattle.std.proofs.Common.{◌≡◌, not, is_some, map, ap, ◌∙◌}
-use Rattle.sql_bind.specs.NameTables.{name_place, with_name}
+use Rattle.sql_bind.specs.inner.NameTables.{name_place, with_name}
 use Rattle.sql_bind.proofs.NameTables.{characters_of, any_text, names_added}
 use Rattle.sql_bind.proofs.names.NameTable.add.Goals as goal
 

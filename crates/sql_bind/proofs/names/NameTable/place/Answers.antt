@@ -1,5 +1,5 @@
 use Rattle.std.proofs.Common.{◌∙◌, ap}
-use Rattle.sql_bind.specs.NameTables.{name_place}
+use Rattle.sql_bind.specs.inner.NameTables.{name_place}
 use Rattle.sql_bind.proofs.NameTables.{position_text}
 use Rattle.sql_bind.proofs.names.NameTable.place.Goals as goal
 

@@ -1,7 +1,7 @@
 use Rattle.std.proofs.Common.{ap, ◌∙◌}
 use Rattle.lint_core.specs.declared.schema.Table.{Table}
 use Rattle.sql_bind.specs.Names.{table_place}
-use Rattle.sql_bind.specs.NameTables.{name_place}
+use Rattle.sql_bind.specs.inner.NameTables.{name_place}
 use Rattle.sql_bind.proofs.NameTables.{name_place-map}
 use Rattle.sql_bind.proofs.outlines.Outlines.place.Goals as goal
 

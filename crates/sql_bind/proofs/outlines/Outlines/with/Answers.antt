@@ -1,5 +1,5 @@
 use Rattle.std.proofs.Common.{Ok, sym, ap, ◌∙◌}
-use Rattle.sql_bind.specs.Passes.{new_outline}
+use Rattle.sql_bind.specs.inner.Passes.{new_outline}
 use Rattle.sql_bind.proofs.Loops.{gives_refusal, passes_on}
 use Rattle.sql_bind.proofs.Passes.{outline_taken, outline_many, outline_refused, outline_added}
 use Rattle.sql_bind.proofs.outlines.Outlines.with.Goals as goal
