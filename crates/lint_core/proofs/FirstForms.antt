@@ -9,6 +9,7 @@ use Rattle.std.specs.Prelude.{Option, Some, None, is_none, nat_eq, nat_lt, nat_l
 use Rattle.std.specs.List.{AllByRecursion, list_all}
 use Rattle.std.specs.Ordering.{int_eq}
 use Rattle.std.specs.Str.{bytes_eq}
+use Rattle.lint_base.proofs.Lists.{below_true, true_below}
 use Rattle.lint_base.specs.declared.place.Span.{Span}
 use Rattle.lint_tables.specs.declared.op.Op.{Op}
 use Rattle.lint_core.specs.declared.schema.Unit.TheVariants.{Whole}
@@ -30,12 +31,6 @@ eq_found a b h = grind (arith, nat_tests)
 
 eq_passes : (a : ℕ) → nat_eq a a ≡ true
 eq_passes a = grind (arith, nat_tests)
-
-lt_found : (a b : ℕ) → nat_lt a b ≡ true → a < b
-lt_found a b h = grind (arith, nat_tests)
-
-lt_passes : (a b : ℕ) → a < b → nat_lt a b ≡ true
-lt_passes a b h = grind (arith, nat_tests)
 
 le_found : (a b : ℕ) → nat_le a b ≡ true → a ≤ b
 le_found a b h = grind (arith, nat_tests)
@@ -81,13 +76,13 @@ column_found n (term.Cell level entry column added) h =
     let level_is : level ≡ 0 = eq_found level 0 third.0 in
     let entry_is : entry ≡ 0 = eq_found entry 0 third.1 in
     let added_is : added ≡ pos 0 = (Decides-int_eq added (pos 0)).0 first.1 in
-    (column, rw (level_is, entry_is, added_is) refl, lt_found column n second.1)
+    (column, rw (level_is, entry_is, added_is) refl, below_true column n second.1)
 column_found n (term.Number m unit) h = cc
 column_found n (term.Text text) h = cc
 column_found n term.Null h = cc
 
 column_passes : (n column : ℕ) → column < n → is_column n (term.Cell 0 0 column (pos 0)) ≡ true
-column_passes n column within = rw (lt_passes column n within) refl
+column_passes n column within = rw (true_below column n within) refl
 
 literal_found : (t : Term) → is_literal t ≡ true → (n : ℤ) × (t ≡ term.Number n Whole)
 literal_found (term.Cell level entry column added) h = cc

@@ -6,6 +6,7 @@ use Rattle.std.proofs.lemmas.Option.{none-some}
 use Rattle.std.specs.Prelude.{Some, slice_get}
 use Rattle.std.specs.Option.{option_map_or}
 use Rattle.std.specs.List.{AllByRecursion}
+use Rattle.lint_base.proofs.Lists.{every_append, slice_get_front}
 use Rattle.lint_core.specs.declared.certificate.Step.{Step}
 use Rattle.lint_core.specs.declared.certificate.Step.TheVariants as step
 use Rattle.lint_core.specs.declared.certificate.SumEdge.{SumEdge}
@@ -31,11 +32,6 @@ use Rattle.lint_engine.proofs.Stated.{side_of_variable, IsStated}
 
 -- ---- lists
 
-pub slice_get_more : {X : Type 0} (xs ys : List X) (k : ℕ) (x : X) → slice_get xs k ≡ Some x → slice_get (xs ++ ys) k ≡ Some x
-slice_get_more [] ys k x at = absurd (none-some x at)
-slice_get_more (z ∷ xs) ys zero x at = at
-slice_get_more (z ∷ xs) ys (suc k) x at = slice_get_more xs ys k x at
-
 slice_get_next : {X : Type 0} (xs ys : List X) (x : X) → slice_get (xs ++ x ∷ ys) (length xs) ≡ Some x
 slice_get_next [] ys x = refl
 slice_get_next (z ∷ xs) ys x = slice_get_next xs ys x
@@ -43,10 +39,6 @@ slice_get_next (z ∷ xs) ys x = slice_get_next xs ys x
 append_nil : {X : Type 0} (xs : List X) → xs ++ [] ≡ xs
 append_nil [] = refl
 append_nil (x ∷ xs) = ap (λ ys. x ∷ ys) (append_nil xs)
-
-pub all_append : {X : Type 0} (P : X → Type 0) (xs ys : List X) → AllByRecursion P xs → AllByRecursion P ys → AllByRecursion P (xs ++ ys)
-all_append P [] ys left right = right
-all_append P (x ∷ xs) ys left right = (left.0, all_append P xs ys left.1 right)
 
 -- ---- the facts
 
@@ -92,7 +84,7 @@ StandFrom facts number (x ∷ xs) = (slice_get facts number ≡ Some x) × Stand
 
 pub stand_more : (facts more : List Fact) (number : ℕ) (xs : List Fact) → StandFrom facts number xs → StandFrom (facts ++ more) number xs
 stand_more facts more number [] stand = tt
-stand_more facts more number (x ∷ xs) stand = (slice_get_more facts more number x stand.0, stand_more facts more (number + 1) xs stand.1)
+stand_more facts more number (x ∷ xs) stand = (slice_get_front facts more number x stand.0, stand_more facts more (number + 1) xs stand.1)
 
 pub stand_behind : (before xs : List Fact) → StandFrom (before ++ xs) (length before) xs
 stand_behind before [] = tt
@@ -176,7 +168,7 @@ module _ (schema : List Table) (branch : Branch) where
   comparisons_stated [] fact parts listed stand = tt
   comparisons_stated (c ∷ cs) fact parts listed stand =
       let both = split_parts c.op c.column c.literal parts (part_facts cs) stand in
-      all_append (IsStated schema branch) (of_comparison fact parts c.column c.literal c.op) (of_comparisons (fact + 1) (parts_after parts c.op) cs)
+      every_append (IsStated schema branch) (of_comparison fact parts c.column c.literal c.op) (of_comparisons (fact + 1) (parts_after parts c.op) cs)
       (comparison_stated c.op c.column c.literal fact parts listed.0 both.0) (comparisons_stated cs (fact + 1) (parts_after parts c.op) listed.1 both.1)
 
   domain_stated : (column : ℕ) (d : Domain) → domain_at schema branch 0 column ≡ Some d → AllByRecursion (IsStated schema branch) (of_domain column d)
@@ -194,7 +186,7 @@ module _ (schema : List Table) (branch : Branch) where
   pub domains_stated : (column : ℕ) (cs : List Column) → ColumnsStand column cs → AllByRecursion (IsStated schema branch) (of_domains column cs)
   domains_stated column [] stand = tt
   domains_stated column (c ∷ cs) stand =
-      all_append (IsStated schema branch) (of_domain column c.domain) (of_domains (column + 1) cs) (domain_stated column c.domain stand.0) (domains_stated (column + 1) cs stand.1)
+      every_append (IsStated schema branch) (of_domain column c.domain) (of_domains (column + 1) cs) (domain_stated column c.domain stand.0) (domains_stated (column + 1) cs stand.1)
 
   columns_stand : (t : ℕ) (table : Table) (before cs : List Column) → branch.tables ≡ t ∷ [] → slice_get schema t ≡ Some table → table.columns ≡ before ++ cs → ColumnsStand (length before) cs
   columns_stand t table before [] one at columns = tt
@@ -277,6 +269,6 @@ all_stated schema t table cs at some =
     let comparisons : StandFrom (opened t cs).facts (first_fact cs) (map fact_of cs) = stand_more (facts_before t cs) (part_facts cs) (first_fact cs) (map fact_of cs) (listed t cs some) in
     let parts : StandFrom (opened t cs).facts (first_fact cs + length cs) (part_facts cs) =
     subst (λ (n : ℕ). StandFrom (opened t cs).facts n (part_facts cs)) (length_before t cs some) (stand_behind (facts_before t cs) (part_facts cs)) in
-    all_append (IsStated schema (opened t cs)) (of_domains 0 table.columns) (of_comparisons (first_fact cs) (first_fact cs + length cs) cs)
+    every_append (IsStated schema (opened t cs)) (of_domains 0 table.columns) (of_comparisons (first_fact cs) (first_fact cs + length cs) cs)
     (domains_stated schema (opened t cs) 0 table.columns (columns_stand schema (opened t cs) t table [] table.columns refl at refl))
     (comparisons_stated schema (opened t cs) cs (first_fact cs) (first_fact cs + length cs) comparisons parts)

@@ -7,6 +7,7 @@ use Rattle.std.proofs.lemmas.List.Elements.{recursion_from_All}
 use Rattle.std.proofs.lemmas.List.{length-map}
 use Rattle.std.specs.Prelude.{nat_eq}
 use Rattle.std.specs.List.{AllByRecursion, IsDistinct}
+use Rattle.lint_base.proofs.Lists.{every_append}
 use Rattle.lint_tables.specs.declared.op.Op.{Op}
 use Rattle.lint_tables.specs.declared.op.Op.TheVariants.{Eq, Ne, Lt, Le, Gt, Ge}
 use Rattle.lint_core.specs.declared.schema.Column.{Column}
@@ -22,7 +23,6 @@ use Rattle.lint_engine.specs.declared.comparison.Comparison.{Comparison}
 use Rattle.lint_engine.specs.declared.inequality.Inequality.{Inequality}
 use Rattle.lint_engine.specs.Plan.{of_domain, of_domains, of_comparison, of_comparisons, parts_after, first_fact, inequalities_of, edges_of, inequality_at, in_order}
 use Rattle.lint_engine.proofs.Stated.{IsStated}
-use Rattle.lint_engine.proofs.Branch.{all_append}
 use Rattle.lint_engine.proofs.Ring.{pair_contradicts}
 
 -- one end of the edge is the number 0
@@ -41,7 +41,7 @@ domain_one_zero column (Text length) = tt
 
 domains_one_zero : (column : ℕ) (cs : List Column) → AllByRecursion OneZero (of_domains column cs)
 domains_one_zero column [] = tt
-domains_one_zero column (c ∷ cs) = all_append OneZero (of_domain column c.domain) (of_domains (column + 1) cs) (domain_one_zero column c.domain) (domains_one_zero (column + 1) cs)
+domains_one_zero column (c ∷ cs) = every_append OneZero (of_domain column c.domain) (of_domains (column + 1) cs) (domain_one_zero column c.domain) (domains_one_zero (column + 1) cs)
 
 comparison_one_zero : (op : Op) (fact parts column : ℕ) (literal : ℤ) → AllByRecursion OneZero (of_comparison fact parts column literal op)
 comparison_one_zero Eq fact parts column literal = (inr (next_not_zero column, refl), (inl (refl, next_not_zero column), tt))
@@ -54,12 +54,12 @@ comparison_one_zero Ge fact parts column literal = (inl (refl, next_not_zero col
 comparisons_one_zero : (fact parts : ℕ) (cs : List Comparison) → AllByRecursion OneZero (of_comparisons fact parts cs)
 comparisons_one_zero fact parts [] = tt
 comparisons_one_zero fact parts (c ∷ cs) =
-    all_append OneZero (of_comparison fact parts c.column c.literal c.op) (of_comparisons (fact + 1) (parts_after parts c.op) cs)
+    every_append OneZero (of_comparison fact parts c.column c.literal c.op) (of_comparisons (fact + 1) (parts_after parts c.op) cs)
     (comparison_one_zero c.op fact parts c.column c.literal) (comparisons_one_zero (fact + 1) (parts_after parts c.op) cs)
 
 pub all_one_zero : (columns : List Column) (cs : List Comparison) → AllByRecursion OneZero (inequalities_of columns cs)
 all_one_zero columns cs =
-    all_append OneZero (of_domains 0 columns) (of_comparisons (first_fact cs) (first_fact cs + length cs) cs)
+    every_append OneZero (of_domains 0 columns) (of_comparisons (first_fact cs) (first_fact cs + length cs) cs)
     (domains_one_zero 0 columns) (comparisons_one_zero (first_fact cs) (first_fact cs + length cs) cs)
 
 -- ---- reads

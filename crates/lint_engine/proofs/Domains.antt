@@ -53,11 +53,3 @@ pub domain_orderly : (d : Domain) → is_domain d ≡ true → IsOrderly d
 domain_orderly (Number least greatest Whole) known = (domain_range least greatest known).order
 domain_orderly (Text length) known = tt
 
-pub all_at : {X : Type 0} (p : X → Bool) (xs : List X) (k : ℕ) (x : X) → list_all p xs ≡ true → slice_get xs k ≡ Some x → p x ≡ true
-all_at p [] k x all at = absurd (none-some x at)
-all_at p (y ∷ ys) zero x all at =
-    let both = and_parts (p y) (list_all p ys) all in
-    subst (λ z. p z ≡ true) (same_Some y x at) both.0
-all_at p (y ∷ ys) (suc k) x all at =
-    let both = and_parts (p y) (list_all p ys) all in
-    all_at p ys k x both.1 at

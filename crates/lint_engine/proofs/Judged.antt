@@ -7,6 +7,7 @@ use Rattle.std.proofs.lemmas.List.Elements.{recursion_from_All}
 use Rattle.std.proofs.lemmas.Option.{get_or_from_slice_get}
 use Rattle.std.specs.Prelude.{Some, slice_get}
 use Rattle.std.specs.List.{AllByRecursion, list_all}
+use Rattle.lint_base.proofs.Lists.{every_append}
 use Rattle.lint_tables.specs.declared.op.Op.{Op}
 use Rattle.lint_tables.specs.declared.op.Op.TheVariants.{Eq, Ne, Lt, Le, Gt, Ge}
 use Rattle.lint_core.specs.declared.condition.Entry.{Entry}
@@ -23,7 +24,6 @@ use Rattle.diff_bounds.specs.System.{IsAmong, IsModerate}
 use Rattle.lint_engine.specs.declared.comparison.Comparison.{Comparison}
 use Rattle.lint_engine.specs.declared.inequality.Inequality.{Inequality}
 use Rattle.lint_engine.specs.Plan.{comparisons_in, IsNumber, of_domain, of_domains, of_comparison, of_comparisons, parts_after, edges_of}
-use Rattle.lint_engine.proofs.Branch.{all_append}
 use Rattle.lint_engine.proofs.Domains.{domain_numbers}
 use Rattle.lint_engine.proofs.Reading.{comparisons_of, reads_all}
 
@@ -90,7 +90,7 @@ domain_among variables column (Text length) within = tt
 pub domains_among : (variables column : ℕ) (cs : List Column) → column + length cs + 1 ≤ variables → AllByRecursion (EdgeIsAmong variables) (of_domains column cs)
 domains_among variables column [] within = tt
 domains_among variables column (c ∷ cs) within =
-    all_append (EdgeIsAmong variables) (of_domain column c.domain) (of_domains (column + 1) cs)
+    every_append (EdgeIsAmong variables) (of_domain column c.domain) (of_domains (column + 1) cs)
     (domain_among variables column c.domain (omega arith)) (domains_among variables (column + 1) cs (omega arith))
 
 comparison_among : (op : Op) (variables fact parts column : ℕ) (literal : ℤ) → column + 1 < variables → AllByRecursion (EdgeIsAmong variables) (of_comparison fact parts column literal op)
@@ -104,7 +104,7 @@ comparison_among Ge variables fact parts column literal within = (at_least_among
 pub comparisons_among_all : (n fact parts : ℕ) (cs : List Conjunct) → AllByRecursion (λ (c : Conjunct). c.column < n) cs → AllByRecursion (EdgeIsAmong (n + 1)) (of_comparisons fact parts (comparisons_of cs))
 comparisons_among_all n fact parts [] exist = tt
 comparisons_among_all n fact parts (c ∷ cs) exist =
-    all_append (EdgeIsAmong (n + 1)) (of_comparison fact parts c.column c.literal c.op) (of_comparisons (fact + 1) (parts_after parts c.op) (comparisons_of cs))
+    every_append (EdgeIsAmong (n + 1)) (of_comparison fact parts c.column c.literal c.op) (of_comparisons (fact + 1) (parts_after parts c.op) (comparisons_of cs))
     (let within : c.column + 1 < n + 1 = omega (arith, exist.0) in comparison_among c.op (n + 1) fact parts c.column c.literal within)
     (comparisons_among_all n (fact + 1) (parts_after parts c.op) cs exist.1)
 
@@ -123,7 +123,7 @@ pub domains_moderate : (column : ℕ) (cs : List Column) → list_all (λ (c : C
 domains_moderate column [] known = tt
 domains_moderate column (c ∷ cs) known =
     let both = and_parts (is_domain c.domain) (list_all (λ (c : Column). is_domain c.domain) cs) known in
-    all_append EdgeIsModerate (of_domain column c.domain) (of_domains (column + 1) cs) (domain_moderate column c.domain both.0) (domains_moderate (column + 1) cs both.1)
+    every_append EdgeIsModerate (of_domain column c.domain) (of_domains (column + 1) cs) (domain_moderate column c.domain both.0) (domains_moderate (column + 1) cs both.1)
 
 comparison_moderate : (op : Op) (fact parts column : ℕ) (literal : ℤ) → IsNumber literal → AllByRecursion EdgeIsModerate (of_comparison fact parts column literal op)
 comparison_moderate Eq fact parts column literal number =
@@ -137,7 +137,7 @@ comparison_moderate Ge fact parts column literal number = (moderate 0 (column + 
 pub comparisons_moderate : (fact parts : ℕ) (cs : List Comparison) → AllByRecursion (λ (c : Comparison). IsNumber c.literal) cs → AllByRecursion EdgeIsModerate (of_comparisons fact parts cs)
 comparisons_moderate fact parts [] numbers = tt
 comparisons_moderate fact parts (c ∷ cs) numbers =
-    all_append EdgeIsModerate (of_comparison fact parts c.column c.literal c.op) (of_comparisons (fact + 1) (parts_after parts c.op) cs)
+    every_append EdgeIsModerate (of_comparison fact parts c.column c.literal c.op) (of_comparisons (fact + 1) (parts_after parts c.op) cs)
     (comparison_moderate c.op fact parts c.column c.literal numbers.0) (comparisons_moderate (fact + 1) (parts_after parts c.op) cs numbers.1)
 
 domain_few : (column : ℕ) (d : Domain) → length (of_domain column d) ≤ 2

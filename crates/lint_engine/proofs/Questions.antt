@@ -6,6 +6,7 @@ use Rattle.std.proofs.lemmas.List.{length-map, length-append, append-nil}
 use Rattle.std.proofs.lemmas.Option.{slice_get-map, slice_get_past}
 use Rattle.std.specs.Prelude.{Ok, Err, Option, Some, slice_get, option_and_then, option_map, nat_le, nat_lt}
 use Rattle.std.specs.List.{list_all}
+use Rattle.lint_base.proofs.Lists.{false_unless}
 use Rattle.lint_core.specs.declared.certificate.Step.{Step}
 use Rattle.lint_core.specs.declared.condition.Block.{Block, fold_out-Block}
 use Rattle.lint_core.specs.declared.condition.Cond.{Cond}
@@ -35,10 +36,6 @@ use Rattle.sort_formula.specs.Sides.{scope_of, from_number}
 use Rattle.sort_formula.specs.Standpoint.{StandsFor}
 use Rattle.sort_formula.specs.Translation.{is_true_formula}
 use Rattle.lint_engine.proofs.Failures.{tables_at, rows_at, Agrees, refuted_says}
-
-false_from : (b : Bool) → (b ≡ true → ⊥) → b ≡ false
-false_from true never = absurd (never refl)
-false_from false never = refl
 
 both_ways : (b : Bool) → b ≡ true → b ≡ false → ⊥
 both_ways b holding failing = cc
@@ -135,5 +132,5 @@ pub question_holds : AcceptedFails → FormulasSayTruth → (schema : List Table
 question_holds fail say schema known query fits steps accepted db met points =
     let domains : is_of_domains schema db ≡ true = (and_parts (is_of_domains schema db) (all_constraints_met db 0 schema) met).0 in
     let fails = fail schema known (counter_sentence schema query Empty Null) steps accepted db met in
-    false_from (refutes db query Empty Null points)
+    false_unless (refutes db query Empty Null points)
     (λ refuted. both_ways _ (refuted_says schema db query (all_agree say schema query fits db domains) points refuted) fails)

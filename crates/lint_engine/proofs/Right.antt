@@ -5,6 +5,7 @@ use Rattle.std.proofs.lemmas.List.{length-map, length-append}
 use Rattle.std.proofs.lemmas.List.Elements.{recursion_from_All, All-from_recursion}
 use Rattle.std.specs.Prelude.{not}
 use Rattle.std.specs.List.{All, AllByRecursion, list_all}
+use Rattle.lint_base.proofs.Lists.{every_append, every_parts}
 use Rattle.lint_core.specs.declared.certificate.Cert.{Cert}
 use Rattle.lint_core.specs.declared.certificate.Step.{Step}
 use Rattle.lint_core.specs.declared.certificate.Step.TheVariants as step
@@ -30,14 +31,14 @@ use Rattle.diff_bounds.specs.System.{IsAmong, IsModerate, Holds, Satisfies, valu
 use Rattle.lint_engine.specs.declared.comparison.Comparison.{Comparison}
 use Rattle.lint_engine.specs.declared.inequality.Inequality.{Inequality}
 use Rattle.lint_engine.specs.Plan.{AreNumbers, IsNumber, AreNear, of_domains, of_comparisons, first_fact, inequalities_of, edges_of, opening_steps, inequality_at, in_order, cells_of, one_row_in}
-use Rattle.lint_engine.proofs.Branch.{all_append, opened, sentence_of, opening_accepted, all_stated}
+use Rattle.lint_engine.proofs.Branch.{opened, sentence_of, opening_accepted, all_stated}
 use Rattle.lint_engine.proofs.Cycle.{all_one_zero, cycle_contradicts, cycle_of_two}
 use Rattle.lint_engine.proofs.Judged.{IsRead, EdgeIsAmong, edges_all, edges_back, domains_among, comparisons_among_all, domains_moderate, comparisons_moderate, domains_few, comparisons_few}
 use Rattle.lint_engine.proofs.Reading.{comparisons_of, all_no_text, sentence_is, no_axioms}
 use Rattle.lint_engine.proofs.Refuted.{is_refuted}
 use Rattle.lint_engine.proofs.Known.{IsKnown, table_known}
 use Rattle.lint_engine.proofs.Stated.{IsStated}
-use Rattle.lint_engine.proofs.Row.{AreNumberColumns, all_parts, IsSatisfied, IsRelated, are_near, cells_meet, all_related}
+use Rattle.lint_engine.proofs.Row.{AreNumberColumns, IsSatisfied, IsRelated, are_near, cells_meet, all_related}
 
 module _ (schema : List Table) (query : Query) (entry : Entry) (table : Table) (columns : List Column) (comparisons : List Comparison) (read : IsRead schema query entry table columns comparisons) where
   abbrev plan : List Inequality
@@ -99,14 +100,14 @@ module _ (schema : List Table) (query : Query) (entry : Entry) (table : Table) (
       (comparisons_among_all (length columns) (first_fact comparisons) (first_fact comparisons + length comparisons) read.conjuncts exist) in
       All-from_recursion (IsAmong (length columns + 1)) (edges_of plan)
       (edges_all (IsAmong (length columns + 1)) plan
-      (all_append (EdgeIsAmong (length columns + 1)) (of_domains 0 columns) (of_comparisons (first_fact comparisons) (first_fact comparisons + length comparisons) comparisons)
+      (every_append (EdgeIsAmong (length columns + 1)) (of_domains 0 columns) (of_comparisons (first_fact comparisons) (first_fact comparisons + length comparisons) comparisons)
       (domains_among (length columns + 1) 0 columns (omega arith)) conjuncts))
 
   pub moderate : AreNumbers comparisons → All IsModerate (edges_of plan)
   moderate numbers =
       All-from_recursion IsModerate (edges_of plan)
       (edges_all IsModerate plan
-      (all_append (λ (i : Inequality). IsModerate i.edge) (of_domains 0 columns) (of_comparisons (first_fact comparisons) (first_fact comparisons + length comparisons) comparisons)
+      (every_append (λ (i : Inequality). IsModerate i.edge) (of_domains 0 columns) (of_comparisons (first_fact comparisons) (first_fact comparisons + length comparisons) comparisons)
       (domains_moderate 0 columns known_domains)
       (comparisons_moderate (first_fact comparisons) (first_fact comparisons + length comparisons) comparisons (recursion_from_All (λ (c : Comparison). IsNumber c.literal) comparisons numbers))))
 
@@ -152,7 +153,7 @@ module _ (schema : List Table) (query : Query) (entry : Entry) (table : Table) (
 
   satisfied : (values : List ℤ) → Satisfies (value_in values) (edges_of plan) → AllByRecursion (IsSatisfied values) (of_domains 0 columns) × AllByRecursion (IsSatisfied values) (of_comparisons (first_fact comparisons) (first_fact comparisons + length comparisons) comparisons)
   satisfied values all =
-      all_parts (IsSatisfied values) (of_domains 0 columns) (of_comparisons (first_fact comparisons) (first_fact comparisons + length comparisons) comparisons)
+      every_parts (IsSatisfied values) (of_domains 0 columns) (of_comparisons (first_fact comparisons) (first_fact comparisons + length comparisons) comparisons)
       (edges_back (Holds (value_in values)) plan (recursion_from_All (Holds (value_in values)) (edges_of plan) all))
 
   pub near : (values : List ℤ) → Satisfies (value_in values) (edges_of plan) → AreNear values (length columns)

@@ -6,6 +6,7 @@ use Rattle.std.proofs.lemmas.Option.{same_Some, none-some, option_and_then_some}
 use Rattle.std.specs.Prelude.{Option, Some, None, slice_get, option_and_then, nat_eq, int_lt}
 use Rattle.std.specs.Cmp.Lexicographic.{pointwise}
 use Rattle.std.specs.Option.{option_map_or}
+use Rattle.lint_base.proofs.Lists.{all_at}
 use Rattle.lint_core.specs.declared.certificate.SumEdge.{SumEdge}
 use Rattle.lint_core.specs.declared.certificate.SumEdge.TheVariants as edge
 use Rattle.sort_formula.specs.declared.formula.Side.{Side}
@@ -18,7 +19,7 @@ use Rattle.lint_core.specs.Schema.{is_schema, is_domain}
 use Rattle.sort_formula.specs.Facts.{Branch, same_rows_of, domain_at, is_same_side}
 use Rattle.sort_formula.specs.Rings.{Bound, bound_of, bounds_of, low_bound, high_bound, same_bound, is_guarded, is_negative_ring, is_contradiction}
 use Rattle.lint_engine.specs.declared.inequality.Inequality.{Inequality}
-use Rattle.lint_engine.proofs.Domains.{IsOrderly, domain_orderly, all_at}
+use Rattle.lint_engine.proofs.Domains.{IsOrderly, domain_orderly}
 use Rattle.lint_engine.proofs.Known.{table_known}
 use Rattle.lint_engine.proofs.Stated.{side_of_variable, IsStated}
 

@@ -5,6 +5,7 @@ use Rattle.std.proofs.lemmas.Bool.{and_from, and_parts, cond_both}
 use Rattle.std.proofs.lemmas.Bool.Decides.{Decides-int_eq}
 use Rattle.std.specs.Prelude.{Some, slice_get, int_lt}
 use Rattle.std.specs.List.{AllByRecursion, list_all}
+use Rattle.lint_base.proofs.Lists.{every_parts}
 use Rattle.lint_tables.specs.declared.op.Op.{Op}
 use Rattle.lint_tables.specs.declared.op.Op.TheVariants.{Eq, Ne, Lt, Le, Gt, Ge}
 use Rattle.lint_core.specs.declared.database.Value.TheVariants.{Null, Int}
@@ -22,10 +23,6 @@ use Rattle.lint_engine.proofs.Domains.{domain_numbers}
 use Rattle.lint_engine.specs.declared.comparison.Comparison.{Comparison}
 use Rattle.lint_engine.specs.declared.inequality.Inequality.{Inequality}
 use Rattle.lint_engine.specs.Plan.{of_domain, of_domains, of_comparison, of_comparisons, parts_after, is_named, number_of, IsNumber, AreNear, cell_of, cells_of}
-
-pub all_parts : {X : Type 0} (P : X → Type 0) (xs ys : List X) → AllByRecursion P (xs ++ ys) → AllByRecursion P xs × AllByRecursion P ys
-all_parts P [] ys all = (tt, all)
-all_parts P (x ∷ xs) ys all = let both = all_parts P xs ys all.1 in ((all.0, both.0), both.1)
 
 int_le_from : (a b : ℤ) → a ≤ℤ b → int_le a b ≡ true
 int_le_from a b h = grind (arith, ints)
@@ -63,7 +60,7 @@ module _ (values : List ℤ) where
   pub cells_meet : (comparisons : List Comparison) (column : ℕ) (cs : List Column) → AreNumberColumns cs → AllByRecursion IsSatisfied (of_domains column cs) → values_meet cs (cells_of values comparisons column cs) ≡ true
   cells_meet comparisons column [] numbers all = refl
   cells_meet comparisons column (c ∷ cs) numbers all =
-      let both = all_parts IsSatisfied (of_domain column c.domain) (of_domains (column + 1) cs) all in
+      let both = every_parts IsSatisfied (of_domain column c.domain) (of_domains (column + 1) cs) all in
       and_from (is_in_domain c.domain (cell_of values comparisons column)) (values_meet cs (cells_of values comparisons (column + 1) cs))
       (cell_in_domain comparisons column c.domain numbers.0 both.0) (cells_meet comparisons (column + 1) cs numbers.1 both.1)
 
@@ -80,12 +77,12 @@ module _ (values : List ℤ) where
   domains_near : (column : ℕ) (cs : List Column) → AreNumberColumns cs → list_all (λ (c : Column). is_domain c.domain) cs ≡ true → AllByRecursion IsSatisfied (of_domains column cs) → (k : ℕ) → k < length cs → IsNumber (number_of values (column + k))
   domains_near column [] numbers known all k within = absurd (omega arith)
   domains_near column (c ∷ cs) numbers known all zero within =
-      let both = all_parts IsSatisfied (of_domain column c.domain) (of_domains (column + 1) cs) all in
+      let both = every_parts IsSatisfied (of_domain column c.domain) (of_domains (column + 1) cs) all in
       let here = and_parts (is_domain c.domain) (list_all (λ (c : Column). is_domain c.domain) cs) known in
       let same : column ≡ column + 0 = omega arith in
       subst (λ (n : ℕ). IsNumber (number_of values n)) same (domain_near column c.domain numbers.0 here.0 both.0)
   domains_near column (c ∷ cs) numbers known all (suc k) within =
-      let both = all_parts IsSatisfied (of_domain column c.domain) (of_domains (column + 1) cs) all in
+      let both = every_parts IsSatisfied (of_domain column c.domain) (of_domains (column + 1) cs) all in
       let here = and_parts (is_domain c.domain) (list_all (λ (c : Column). is_domain c.domain) cs) known in
       let same : column + 1 + k ≡ column + suc k = omega arith in
       let rest : k < length cs = omega arith in
@@ -123,7 +120,7 @@ module _ (values : List ℤ) where
   pub all_related : (cs : List Comparison) (fact parts : ℕ) → AllByRecursion (λ (c : Comparison). is_one_range c.op ≡ true) cs → AllByRecursion IsSatisfied (of_comparisons fact parts cs) → AllByRecursion IsRelated cs
   all_related [] fact parts ranges all = tt
   all_related (c ∷ cs) fact parts ranges all =
-      let both = all_parts IsSatisfied (of_comparison fact parts c.column c.literal c.op) (of_comparisons (fact + 1) (parts_after parts c.op) cs) all in
+      let both = every_parts IsSatisfied (of_comparison fact parts c.column c.literal c.op) (of_comparisons (fact + 1) (parts_after parts c.op) cs) all in
       (related c.op c.column c.literal fact parts ranges.0 both.0, all_related cs (fact + 1) (parts_after parts c.op) ranges.1 both.1)
 
   -- ---- cells

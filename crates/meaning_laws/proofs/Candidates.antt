@@ -5,6 +5,7 @@ use Rattle.std.proofs.lemmas.Bool.Decides.{nat_tests}
 use Rattle.std.specs.Prelude.{Option, Some, None, slice_get, Contains}
 use Rattle.std.specs.List.{list_any}
 use Rattle.std.specs.Option.{option_map_or}
+use Rattle.lint_base.proofs.Lists.{below_true}
 use Rattle.lint_core.specs.declared.query.Query.{Query}
 use Rattle.lint_core.specs.declared.query.Question.{Question}
 use Rattle.lint_core.specs.declared.query.Question.TheVariants.{OneRow, Empty, NeedlessDistinct, Constant, Duplicate, NeedlessJoin, Implied, Impossible, SameRow, NullInNotIn}
@@ -14,9 +15,6 @@ use Rattle.lint_core.specs.Database.{below}
 use Rattle.lint_core.specs.Naming.{has_scalar}
 use Rattle.lint_core.specs.Predicates.{predicates}
 use Rattle.meaning_laws.proofs.Members.{Stands, stands_front, stands_behind, stands_map, stands_flat_map, stands_below, stands_filter, filter_passes, stands_contains, contains_stands}
-
-less : (a b : ℕ) → nat_lt a b ≡ true → a < b
-less a b h = grind (arith, nat_tests)
 
 -- where an element passes a test, it is there
 is_there : {A : Type 0} (f : A → Bool) (xs : List A) (i : ℕ) → option_map_or f (slice_get xs i) false ≡ true → i < length xs
@@ -106,7 +104,7 @@ module _ (query : Query) where
     asked_is_candidate : (q : Question) → is_asked schema query q ≡ true → Stands q (candidates query)
     asked_is_candidate (OneRow sub) h =
         let n = length (scalars_of query) in
-        up_to_constant (OneRow sub) (stands_front (OneRow sub) rows_of_subqueries (Empty ∷ NeedlessDistinct ∷ constants) (one_of OneRow n sub (less sub n h)))
+        up_to_constant (OneRow sub) (stands_front (OneRow sub) rows_of_subqueries (Empty ∷ NeedlessDistinct ∷ constants) (one_of OneRow n sub (below_true sub n h)))
     asked_is_candidate Empty h = past_rows Empty (inl refl)
     asked_is_candidate NeedlessDistinct h = past_rows NeedlessDistinct (inr (inl refl))
     asked_is_candidate (Constant item) h =
@@ -123,13 +121,13 @@ module _ (query : Query) where
         let unnamed = and_parts (nat_lt 1 n && nat_lt entry n && not (is_selected query entry)) plain h in
         let there = and_parts (nat_lt 1 n && nat_lt entry n) (not (is_selected query entry)) unnamed.0 in
         let within = and_parts (nat_lt 1 n) (nat_lt entry n) there.0 in
-        up_to_join (NeedlessJoin entry) (stands_behind (NeedlessJoin entry) to_duplicate joins (one_of NeedlessJoin n entry (less entry n within.1)))
+        up_to_join (NeedlessJoin entry) (stands_behind (NeedlessJoin entry) to_duplicate joins (one_of NeedlessJoin n entry (below_true entry n within.1)))
     asked_is_candidate (Implied predicate) h =
         let n = length (predicates (main_condition query)) in
-        up_to_implied (Implied predicate) (stands_behind (Implied predicate) to_join implied (one_of Implied n predicate (less predicate n h)))
+        up_to_implied (Implied predicate) (stands_behind (Implied predicate) to_join implied (one_of Implied n predicate (below_true predicate n h)))
     asked_is_candidate (Impossible predicate) h =
         let n = length (predicates (main_condition query)) in
-        up_to_impossible (Impossible predicate) (stands_behind (Impossible predicate) to_implied impossible (one_of Impossible n predicate (less predicate n h)))
+        up_to_impossible (Impossible predicate) (stands_behind (Impossible predicate) to_implied impossible (one_of Impossible n predicate (below_true predicate n h)))
     asked_is_candidate (SameRow entry other) h =
         let both = and_parts (nat_lt entry other) (test_two are_of_one_table (main_entries query) entry other) h in
         let first = is_there (λ x. option_map_or (are_of_one_table x) (slice_get (main_entries query) other) false) (main_entries query) entry both.1 in
@@ -138,7 +136,7 @@ module _ (query : Query) where
         (stands_behind (SameRow entry other) to_impossible same_rows (two_of SameRow (length (main_entries query)) entry other first second))
     asked_is_candidate (NullInNotIn sub) h =
         let n = length (not_ins_of query) in
-        stands_behind (NullInNotIn sub) to_same_row nulls (one_of NullInNotIn n sub (less sub n h))
+        stands_behind (NullInNotIn sub) to_same_row nulls (one_of NullInNotIn n sub (below_true sub n h))
 
     pub asked_is_listed : (q : Question) → is_asked schema query q ≡ true → Contains (questions schema query) q
     asked_is_listed q h =

@@ -26,12 +26,8 @@ use Rattle.meaning_laws.specs.SameRows.{HaveEqualRows, named_step, block_named_s
 use Rattle.lint_core.specs.Truth.{truth_of, is_true, not_of, negated_if, and_of, or_of}
 use Rattle.lint_core.proofs.Conditions.{block_truth, layer_truth}
 use Rattle.lint_core.proofs.LevelTables.{length_inside, at_outer, at_own}
-use Rattle.lint_base.proofs.Lists.{every_at}
+use Rattle.lint_base.proofs.Lists.{every_at, every_parts}
 use Rattle.meaning_laws.proofs.MeaningLaws.{map_ok_map_ok}
-
-every_parts : {A : Type 0} (P : A → Type 0) (xs ys : List A) → AllByRecursion P (xs ++ ys) → AllByRecursion P xs × AllByRecursion P ys
-every_parts P [] ys all = (tt, all)
-every_parts P (x ∷ xs) ys all = let parts = every_parts P xs ys all.1 in ((all.0, parts.0), parts.1)
 
 -- ---- what is selected
 

@@ -4,6 +4,7 @@ use Rattle.std.proofs.lemmas.Bool.{and_parts, and_from}
 use Rattle.std.proofs.lemmas.Option.{same_Some}
 use Rattle.std.proofs.lemmas.List.Folds.{list_all-map}
 use Rattle.std.specs.List.{list_all}
+use Rattle.lint_base.proofs.Lists.{all_append}
 use Rattle.lint_base.specs.declared.place.Span.{Span}
 use Rattle.lint_tables.specs.declared.op.Op.{Op}
 use Rattle.lint_tables.specs.declared.op.Op.TheVariants.{Eq, Le, Ge}
@@ -30,7 +31,7 @@ use Rattle.sql_bind.specs.Shape as shape
 use Rattle.sql_bind.proofs.FitsBound.{and_then_ok, same_ok}
 use Rattle.sql_bind.proofs.FitsForms.{fits_and, fits_or, fits_not, fits_compare, fits_is_null, fits_exists, fits_in, fits_scalar, block_is, inner_level}
 use Rattle.sql_bind.proofs.FitsItems.{is_there, entries_there, Part, items_fit}
-use Rattle.sql_bind.proofs.FitsLists.{map-map, all-append}
+use Rattle.sql_bind.proofs.FitsLists.{map-map}
 use Rattle.sql_bind.proofs.FitsPredicates.{FitsAt, Fitting, fits_same, matched, between_fits, in_list_fits, conjunction_fits, subquery_fits}
 
 -- conditions in a row
@@ -272,7 +273,7 @@ module _ (schema : List Table) where
         let here : AllFit first.0 = optional_fits level refl part.0.on part.1 first.0 (sym (on_shaped part.0) ∙ own_shape.1)
         (ap (bind_optional schema entries outer (level ∷ outer)) (sym (on_bound part.0)) ∙ first.1) in
         subst AllFit (same_ok (first.0 ++ rest.0) conds rest.2)
-        (all-append (cond_fits schema (level_tables (own_levels schema entries outer))) first.0 rest.0 here (ons_fit (suc number) parts rest.0 shapes.1 rest.1))
+        (all_append (cond_fits schema (level_tables (own_levels schema entries outer))) first.0 rest.0 here (ons_fit (suc number) parts rest.0 shapes.1 rest.1))
 
     -- the block of these entries, with a condition that fits
     block_of : (cond : Cond) (span : Span) → nat_le (length entries) 16 ≡ true → list_all (is_there schema) entries ≡ true → FitsAt schema (own_levels schema entries outer) cond →
@@ -304,7 +305,7 @@ module _ (schema : List Table) where
     made_fits : (selected : List Selected) (ons filters : List Cond) (select : BoundSelect) → (nat_le (length entries) 16 ≡ true) × (list_all (is_there schema) entries ≡ true) →
         Part schema entries outer 0 selected → AllFit entries outer ons → AllFit entries outer filters → ◌≡◌ {A = Bound BoundSelect} (Ok (made selected ons filters)) (Ok select) → Fitting schema outer select
     made_fits selected ons filters select there items on_fits filter_fits is =
-        let all = all-append (cond_fits schema (level_tables (own_levels schema entries outer))) ons filters on_fits filter_fits in
+        let all = all_append (cond_fits schema (level_tables (own_levels schema entries outer))) ons filters on_fits filter_fits in
         let cond_fit : FitsAt schema (own_levels schema entries outer) (conjunction (ons ++ filters)) = conjunction_fits schema (own_levels schema entries outer) (ons ++ filters) all in
         subst (Fitting schema outer) (same_ok (made selected ons filters) select is)
         (record { fits = block_of entries outer (conjunction (ons ++ filters)) y.span there.0 there.1 cond_fit; items = items })

@@ -3,6 +3,7 @@ use Rattle.std.proofs.Common.{ℕ, suc, ◌+◌, ◌≤◌, ◌≡◌, refl, sym
 use Rattle.std.proofs.lemmas.Bool.{and_parts, and_from}
 use Rattle.std.specs.List.{list_all}
 use Rattle.std.specs.Str.{bytes_eq}
+use Rattle.lint_base.proofs.Lists.{all_append}
 use Rattle.lint_base.specs.declared.place.Span.{Span}
 use Rattle.lint_base.specs.declared.place.Fault.TheVariants.{DuplicateName}
 use Rattle.sql_tree.specs.declared.term.NameTree.{NameTree}
@@ -21,7 +22,7 @@ use Rattle.sql_bind.specs.Conditions.{Selected, EntryMeaning, tree_span}
 use Rattle.sql_bind.specs.Selects.{visible_name, entry_span, of_table, bind_entry, bind_entries, column_items, star_items, at_most_256, own_levels, written_item, entry_items, bind_item, bind_items, aliased_span}
 use Rattle.sql_bind.specs.Shape.{item_shaped}
 use Rattle.sql_bind.proofs.FitsBound.{and_then_ok, same_ok, if_not, limit_ok, limit_not}
-use Rattle.sql_bind.proofs.FitsLists.{position_inside, position_there, all_push, all-append}
+use Rattle.sql_bind.proofs.FitsLists.{position_inside, position_there, all_push}
 use Rattle.sql_bind.proofs.FitsNames.{cell_fits}
 use Rattle.sql_bind.proofs.FitsTerms.{Plain, item_term_fits}
 
@@ -74,7 +75,7 @@ module _ (schema : List Table) where
     unfolding star_items
     star_fit at number [] there = refl
     star_fit at number (e ∷ es) there =
-        all-append selected_fits (column_items schema (length outer) number at 0 (columns_of schema e)) (star_items schema (length outer) at (suc number) es)
+        all_append selected_fits (column_items schema (length outer) number at 0 (columns_of schema e)) (star_items schema (length outer) at (suc number) es)
         (all_columns_fit number at e (ap (slice_get entries) (sym (add-zero number)) ∙ there 0 e refl))
         (star_fit at (suc number) es (λ i d h. ap (slice_get entries) (suc-add number i ∙ sym (add-suc number i)) ∙ there (suc i) d h))
 
@@ -119,4 +120,4 @@ module _ (schema : List Table) where
         let first : Part count part.0 = item_part count item part.0 shapes.0 part.1 in
         let others : Part (count + length part.0) rest.0 = items_fit (count + length part.0) items rest.0 first.few shapes.1 rest.1 in
         subst (Part count) (same_ok (part.0 ++ rest.0) selected rest.2)
-        (record { few = omega (arith, others.few, length-append part.0 rest.0); fit = all-append selected_fits part.0 rest.0 first.fit others.fit })
+        (record { few = omega (arith, others.few, length-append part.0 rest.0); fit = all_append selected_fits part.0 rest.0 first.fit others.fit })

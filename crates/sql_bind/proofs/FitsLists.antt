@@ -25,11 +25,6 @@ position_inside test xs i e =
 pub position_there : {A : Type 0} (test : A → Bool) (xs : List A) (i : ℕ) → position test xs ≡ Some i → (x : A) × (slice_get xs i ≡ Some x)
 position_there test xs i e = inside xs i (position_inside test xs i e)
 
-pub get-append_left : {A : Type 0} (xs ys : List A) (i : ℕ) (x : A) → slice_get xs i ≡ Some x → slice_get (xs ++ ys) i ≡ Some x
-get-append_left [] ys i x e = absurd (cc)
-get-append_left (a ∷ xs) ys zero x e = e
-get-append_left (a ∷ xs) ys (suc i) x e = get-append_left xs ys i x e
-
 pub get-append_at : {A : Type 0} (xs : List A) (y : A) (ys : List A) → slice_get (xs ++ y ∷ ys) (length xs) ≡ Some y
 get-append_at [] y ys = refl
 get-append_at (x ∷ xs) y ys = get-append_at xs y ys
@@ -46,26 +41,15 @@ get-drop (suc n) [] i = refl
 get-drop (suc n) (a ∷ xs) i = rw (suc-add n i) (get-drop n xs i)
 
 -- every element passes where the one at each place does
-pub all_at : {A : Type 0} (test : A → Bool) (xs : List A) → ((i : ℕ) (x : A) → slice_get xs i ≡ Some x → test x ≡ true) → list_all test xs ≡ true
-all_at test [] each = refl
-all_at test (x ∷ xs) each = and_from (test x) (list_all test xs) (each 0 x refl) (all_at test xs (λ i y e. each (suc i) y e))
-
-pub at_all : {A : Type 0} (test : A → Bool) (xs : List A) (i : ℕ) (x : A) → list_all test xs ≡ true → slice_get xs i ≡ Some x → test x ≡ true
-at_all test [] i x all e = absurd (cc)
-at_all test (a ∷ xs) zero x all e = ap test (sym (same_Some a x e)) ∙ (and_parts (test a) (list_all test xs) all).0
-at_all test (a ∷ xs) (suc i) x all e = at_all test xs i x (and_parts (test a) (list_all test xs) all).1 e
+pub all_from_each : {A : Type 0} (test : A → Bool) (xs : List A) → ((i : ℕ) (x : A) → slice_get xs i ≡ Some x → test x ≡ true) → list_all test xs ≡ true
+all_from_each test [] each = refl
+all_from_each test (x ∷ xs) each = and_from (test x) (list_all test xs) (each 0 x refl) (all_from_each test xs (λ i y e. each (suc i) y e))
 
 pub all_push : {A : Type 0} (test : A → Bool) (xs : List A) (x : A) → list_all test xs ≡ true → test x ≡ true → list_all test (xs ++ x ∷ []) ≡ true
 all_push test [] x all e = and_from (test x) true e refl
 all_push test (a ∷ xs) x all e =
     let both = and_parts (test a) (list_all test xs) all in
     and_from (test a) (list_all test (xs ++ x ∷ [])) both.0 (all_push test xs x both.1 e)
-
-pub all-append : {A : Type 0} (test : A → Bool) (xs ys : List A) → list_all test xs ≡ true → list_all test ys ≡ true → list_all test (xs ++ ys) ≡ true
-all-append test [] ys all e = e
-all-append test (a ∷ xs) ys all e =
-    let both = and_parts (test a) (list_all test xs) all in
-    and_from (test a) (list_all test (xs ++ ys)) both.0 (all-append test xs ys both.1 e)
 
 pub all_weaker : {A : Type 0} (test other : A → Bool) → ((x : A) → test x ≡ true → other x ≡ true) → (xs : List A) → list_all test xs ≡ true → list_all other xs ≡ true
 all_weaker test other each [] all = refl

@@ -3,6 +3,7 @@ use Rattle.std.proofs.Common.{ℕ, suc, ◌+◌, ◌-◌, ◌≡◌, refl, sym, 
 use Rattle.std.proofs.lemmas.List.{length-reverse, length-map}
 use Rattle.std.proofs.lemmas.Option.{slice_get-map}
 use Rattle.std.specs.Str.{bytes_eq}
+use Rattle.lint_base.proofs.Lists.{slice_get_front}
 use Rattle.lint_base.specs.declared.place.Span.{Span}
 use Rattle.sql_tree.specs.declared.term.NameTree.{NameTree}
 use Rattle.lint_core.specs.declared.condition.Entry.{Entry}
@@ -18,7 +19,7 @@ use Rattle.sql_bind.specs.Bound.{Bound}
 use Rattle.sql_bind.specs.Names.{Level, seen_entries, level_tables, column_place, entry_place, columns_of, columns_at, Place, with_place, places_named, among, find_unqualified, in_entry, at_entry, find_qualified, find_column}
 use Rattle.sql_bind.proofs.FitsBound.{same_ok}
 use Rattle.sql_bind.proofs.FitsForms.{inner_level}
-use Rattle.sql_bind.proofs.FitsLists.{same_head, position_there, get-append_left, get-append_at, get-take, get-drop}
+use Rattle.sql_bind.proofs.FitsLists.{same_head, position_there, get-append_at, get-take, get-drop}
 
 module _ (schema : List Table) where
   -- a term that is a column with nothing added, which is there
@@ -58,7 +59,7 @@ module _ (schema : List Table) where
       (column : ℕ) → is_some (cell_kind schema (option_and_then (λ es. slice_get es entry) entries) column (pos 0)) ≡ true →
       is_some (cell_kind schema (at_entry (tables ++ more) level entry) column (pos 0)) ≡ true
   table_further tables more level entry None at column fits = absurd (cc)
-  table_further tables more level entry (Some entries) at column fits = rw (get-append_left tables more level entries at) fits
+  table_further tables more level entry (Some entries) at column fits = rw (slice_get_front tables more level entries at) fits
 
   pub deeper : (level : Level) (outer : List Level) (term : Term) → Found outer term → Found (level ∷ outer) term
   deeper level outer term f = record {

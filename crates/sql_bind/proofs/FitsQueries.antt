@@ -4,6 +4,7 @@ use Rattle.std.proofs.lemmas.Bool.{and_parts, and_from}
 use Rattle.std.proofs.lemmas.List.{length-map}
 use Rattle.std.proofs.lemmas.List.Folds.{find_at, list_all-map}
 use Rattle.std.specs.List.{list_all, find, position_or_len}
+use Rattle.lint_base.proofs.Lists.{all_at, all_append}
 use Rattle.lint_base.specs.declared.place.Span.{Span}
 use Rattle.lint_base.specs.declared.place.Fault.TheVariants.{UnknownColumn}
 use Rattle.sql_tree.specs.declared.term.TermTree.{TermTree}
@@ -28,7 +29,6 @@ use Rattle.sql_bind.specs.Shape.{select_shaped, key_shaped, is_bare_column, quer
 use Rattle.sql_bind.proofs.FitsBound.{and_then_ok, same_ok, if_ok, limit_ok}
 use Rattle.sql_bind.proofs.FitsConditions.{select_fits}
 use Rattle.sql_bind.proofs.FitsItems.{selected_fits}
-use Rattle.sql_bind.proofs.FitsLists.{at_all, all-append}
 use Rattle.sql_bind.proofs.FitsNames.{Found}
 use Rattle.sql_bind.proofs.FitsPredicates.{Fitting}
 use Rattle.sql_bind.proofs.FitsTerms.{column_fits}
@@ -61,7 +61,7 @@ module _ (schema : List Table) (select : BoundSelect) (fitting : Fitting schema 
       key_item schema select o other ≡ Ok keys → KeysFit keys
   item_key place None other keys at otherwise is = otherwise is
   item_key place (Some s) other keys at otherwise is =
-      subst KeysFit (same_ok (key_of s.item.term) keys is) (selected_key s (at_all (selected_fits schema (out-Block select.block).entries []) select.selected place s fitting.items.fit at))
+      subst KeysFit (same_ok (key_of s.item.term) keys is) (selected_key s (all_at (selected_fits schema (out-Block select.block).entries []) select.selected place s fitting.items.fit at))
 
   key_fits : (key : OrderTree) (keys : List Term) → key_shaped key ≡ true → bind_key schema select key ≡ Ok keys → KeysFit keys
   key_fits (Place number at) keys shaped is =
@@ -84,7 +84,7 @@ module _ (schema : List Table) (select : BoundSelect) (fitting : Fitting schema 
       let first = and_then_ok (bind_key schema select key) (λ terms. and_then (bind_keys schema select order) (λ more. Ok (terms ++ more))) keys is in
       let rest = and_then_ok (bind_keys schema select order) (λ more. Ok (first.0 ++ more)) keys first.2 in
       subst KeysFit (same_ok (first.0 ++ rest.0) keys rest.2)
-      (all-append (order_fits schema tables) first.0 rest.0 (key_fits key first.0 shapes.0 first.1) (keys_fit order rest.0 shapes.1 rest.1))
+      (all_append (order_fits schema tables) first.0 rest.0 (key_fits key first.0 shapes.0 first.1) (keys_fit order rest.0 shapes.1 rest.1))
 
   -- the query of these parts
   whole_fits : (distinct : Option Span) (at : Span) (keys : List Term) (query : Query) → KeysFit keys → limited_query distinct at select keys ≡ Ok query → query_fits schema query ≡ true

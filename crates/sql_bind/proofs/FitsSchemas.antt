@@ -3,6 +3,7 @@ use Rattle.std.proofs.Common.{ℕ, zero, suc, ◌+◌, ◌<◌, ◌≤◌, ◌�
 use Rattle.std.proofs.lemmas.Bool.{and_parts, and_from, cases_lt}
 use Rattle.std.proofs.lemmas.Option.{same_Some, slice_get_within, slice_get_past}
 use Rattle.std.specs.List.{list_all, list_any, zip}
+use Rattle.lint_base.proofs.Lists.{all_at, all_append}
 use Rattle.sql_tree.specs.declared.term.NameTree.{NameTree}
 use Rattle.sql_tree.specs.declared.schema.RuleTree.{RuleTree}
 use Rattle.sql_tree.specs.declared.schema.RuleTree.TheVariants.{NotNull, Unique, Primary, Check, Foreign}
@@ -25,7 +26,7 @@ use Rattle.sql_bind.specs.Schemas.{Constraints, no_constraints, keys_of, rules_a
 use Rattle.sql_bind.proofs.FitsAlike.{columns_at, fits_alike}
 use Rattle.sql_bind.proofs.FitsBound.{and_then_ok, same_ok}
 use Rattle.sql_bind.proofs.FitsColumns.{has_domain, good_columns, Outlines, outlines_good}
-use Rattle.sql_bind.proofs.FitsLists.{inside, at_all, all_same, all_weaker, all-append}
+use Rattle.sql_bind.proofs.FitsLists.{inside, all_same, all_weaker}
 use Rattle.sql_bind.proofs.FitsNamed.{keys_named}
 use Rattle.sql_bind.proofs.FitsRules.{columns_of_key, refers, refers_well, Good, rules_good}
 
@@ -42,7 +43,7 @@ unfolding rules_of
 rules_shaped [] shaped = refl
 rules_shaped (element.Column name kind rules ∷ elements) shaped =
     let both = and_parts (list_all rule_shaped rules) (list_all element_shaped elements) shaped in
-    all-append rule_shaped rules (rules_of elements) both.0 (rules_shaped elements both.1)
+    all_append rule_shaped rules (rules_of elements) both.0 (rules_shaped elements both.1)
 rules_shaped (element.Rule rule ∷ elements) shaped =
     let both = and_parts (table_rule_shaped rule) (list_all element_shaped elements) shaped in
     and_from _ _ (table_rule rule both.0) (rules_shaped elements both.1)
@@ -136,7 +137,7 @@ module _ (outlines : List Table) (trees : List CreateTable) where
 
     row_good : (i : ℕ) (outline : Table) (row : Row 0 i trees tables outline) → Good outlines trees outline row.tree.name i row.constraints
     row_good i outline row =
-        let elements : list_all element_shaped row.tree.elements ≡ true = at_all (λ (t : CreateTable). list_all element_shaped t.elements) trees i row.tree shaped row.tree_is in
+        let elements : list_all element_shaped row.tree.elements ≡ true = all_at (λ (t : CreateTable). list_all element_shaped t.elements) trees i row.tree shaped row.tree_is in
         rules_good outlines trees outline row.tree.name i no_constraints (rules_of row.tree.elements) row.constraints (rules_shaped row.tree.elements elements)
         (record { few_keys = omega arith; keys = refl; few_checks = omega arith; checks = refl; few_foreign = omega arith; foreign = refl })
         (ap (λ n. bind_rules outlines trees outline row.tree.name n no_constraints (rules_of row.tree.elements)) (sym (zero-add i)) ∙ row.bound)
@@ -171,7 +172,7 @@ module _ (outlines : List Table) (trees : List CreateTable) where
         let row = all.1 i o.0 o.1 in
         let made : Table = with_constraints outlines trees o.0 row.tree.name row.constraints in
         let g : Good outlines trees o.0 row.tree.name i row.constraints = row_good i o.0 row in
-        let columns = and_parts (nat_le (length o.0.columns) 64) (list_all has_domain o.0.columns) (at_all good_columns outlines i o.0 good o.1) in
+        let columns = and_parts (nat_le (length o.0.columns) 64) (list_all has_domain o.0.columns) (all_at good_columns outlines i o.0 good o.1) in
         let checks : list_all (check_fits tables i) row.constraints.checks ≡ true = all_weaker (check_fits outlines i) (check_fits tables i) (check_kept i) row.constraints.checks g.checks in
         let foreign : list_all (is_foreign_key tables made) row.constraints.foreign ≡ true =
         all_weaker (refers_well outlines trees o.0 row.tree.name i) (is_foreign_key tables made)

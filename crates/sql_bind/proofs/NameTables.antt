@@ -5,13 +5,8 @@ use Rattle.std.specs.Str.{bytes_eq, chars}
 use Rattle.std.proofs.lemmas.List.{length-map, map-append}
 use Rattle.std.proofs.lemmas.Iterator.Adapters.{position_from-zero}
 use Rattle.std.proofs.lemmas.Slice.Eq.{bytes_eq-Decides}
+use Rattle.lint_base.proofs.Lists.{both_left, both_right, same_tests}
 use Rattle.sql_bind.specs.inner.NameTables.{name_place, with_name}
-
--- two tests that each follow from the other are one
-same_tests : (a b : Bool) → (a ≡ true → b ≡ true) → (b ≡ true → a ≡ true) → a ≡ b
-same_tests true b there back = sym (there refl)
-same_tests false true there back = back refl
-same_tests false false there back = refl
 
 abbrev pub is_text : Bor (List ℕ) → Bool
 is_text key = bytes_eq (encode_utf8_all (chars key.now)) key.now
@@ -25,14 +20,6 @@ same_text text name characters bytes key valid =
     same_tests (bytes_eq text key) (bytes_eq (chars key) name)
     (λ h. (bytes_eq-Decides (chars key) name).1 (sym (ap chars ((bytes_eq-Decides text key).0 h)) ∙ characters))
     (λ h. (bytes_eq-Decides text key).1 (bytes ∙ ap encode_utf8_all (sym ((bytes_eq-Decides (chars key) name).0 h)) ∙ is))
-
-first_true : (a b : Bool) → (a && b) ≡ true → a ≡ true
-first_true true b h = refl
-first_true false b h = h
-
-second_true : (a b : Bool) → (a && b) ≡ true → b ≡ true
-second_true true b h = h
-second_true false b h = absurd (true≢false (sym h))
 
 any_first : (b : Bool) (n : ℕ) (rest : Bool) (place : Option ℕ) → rest ≡ is_some place → (b || rest) ≡ is_some (cond b (Some n) place)
 any_first true n rest place h = refl
@@ -50,8 +37,8 @@ module _ (text name : List ℕ) (characters : chars text ≡ name) (bytes : text
   before_text : (keys : List (Bor (List ℕ))) → list_all is_text keys ≡ true → position_or_len (λ key. bytes_eq text key.now) keys ≡ position_or_len (λ other. bytes_eq other name) (map characters_of keys)
   before_text [] h = refl
   before_text (key ∷ keys) h =
-      let here = same_text text name characters bytes key.now (first_true (is_text key) (list_all is_text keys) h) in
-      let rest = before_text keys (second_true (is_text key) (list_all is_text keys) h) in
+      let here = same_text text name characters bytes key.now (both_left (is_text key) (list_all is_text keys) h) in
+      let rest = before_text keys (both_right (is_text key) (list_all is_text keys) h) in
       λ j. cond (not (here j)) (1 + rest j) 0
 
   pub position_text : (keys : List (Bor (List ℕ))) → list_all is_text keys ≡ true → position (λ key. bytes_eq text key.now) keys ≡ name_place (map characters_of keys) name

@@ -7,6 +7,7 @@ use Rattle.std.proofs.lemmas.List.{map-append}
 use Rattle.std.proofs.lemmas.List.Folds.{list_all-append, list_all-map}
 use Rattle.std.specs.Prelude.{Option, Some, slice_get, is_none, unwrap_or, option_and_then, nat_lt, nat_eq}
 use Rattle.std.specs.List.{filter, flat_map, list_all, list_any}
+use Rattle.lint_base.proofs.Lists.{all_at, not_not, same_tests}
 use Rattle.lint_core.specs.declared.condition.Cond.{Cond}
 use Rattle.lint_core.specs.declared.database.Database.{Database}
 use Rattle.lint_core.specs.declared.database.Row.{Row}
@@ -27,20 +28,11 @@ use Rattle.lint_core.specs.Meets.{value_in, agree, values_meet, rows_meet, table
 use Rattle.lint_core.specs.Truth.{truth_of, is_true}
 use Rattle.sql_meaning.specs.Violations.{numbered, place, row_numbers, at_rows, outside, nulls, is_twin, twice, false_checks, refers_to_nothing, dangling, table_violations, first_violation}
 
-both_same : (a b : Bool) → (a ≡ true → b ≡ true) → (b ≡ true → a ≡ true) → a ≡ b
-both_same true b there back = sym (there refl)
-both_same false true there back = back refl
-both_same false false there back = refl
-
 regroup : (a b c d : Bool) → ((a && b) && (c && d)) ≡ ((a && c) && (b && d))
 regroup true true c d = refl
 regroup true false true d = refl
 regroup true false false d = refl
 regroup false b c d = refl
-
-not_not : (a : Bool) → not (not a) ≡ a
-not_not true = refl
-not_not false = refl
 
 not_neither : (a b : Bool) → not (not a && not b) ≡ (a || b)
 not_neither true b = refl
@@ -83,11 +75,6 @@ module _ {A : Type 0} where
   all_both : (p q : A → Bool) (xs : List A) → list_all (λ x. p x && q x) xs ≡ (list_all p xs && list_all q xs)
   all_both p q [] = refl
   all_both p q (x ∷ xs) = ap (λ b. (p x && q x) && b) (all_both p q xs) ∙ regroup (p x) (q x) (list_all p xs) (list_all q xs)
-
-  all_at : (p : A → Bool) (xs : List A) (i : ℕ) (x : A) → list_all p xs ≡ true → slice_get xs i ≡ Some x → p x ≡ true
-  all_at p [] i x all at = absurd (cc)
-  all_at p (y ∷ ys) zero x all at = let same : y ≡ x = cc in ap p (sym same) ∙ (and_parts (p y) (list_all p ys) all).0
-  all_at p (y ∷ ys) (suc i) x all at = all_at p ys i x (and_parts (p y) (list_all p ys) all).1 at
 
   -- parts under their numbers
   abbrev all_numbered : (ℕ → A → Bool) → ℕ → List A → Bool
@@ -305,7 +292,7 @@ module _ (db : Database) where
           empty_flat (λ row. at_rows db number (is_twin db number key row) (λ other. Twice number k row other)) numbers
           ∙ all_same (λ row. is_empty (at_rows db number (is_twin db number key row) (λ other. Twice number k row other))) (λ row. list_all (no_twin row) numbers)
           (λ row. empty_filter (λ other. Twice number k row other) (is_twin db number key row) numbers) numbers
-          ∙ both_same (list_all (λ row. list_all (no_twin row) numbers) numbers) (list_all (λ row. list_all (apart row) numbers) numbers)
+          ∙ same_tests (list_all (λ row. list_all (no_twin row) numbers) numbers) (list_all (λ row. list_all (apart row) numbers) numbers)
           (λ none. from_each_pair apart (λ row other low low'. apart_from row other (each_pair no_twin none row other low low') (each_pair no_twin none other row low' low)))
           (λ all. from_each_pair no_twin (λ row other low low'. twin_free row other (each_pair apart all row other low low')))
           ∙ sym key_by_number
