@@ -10,3 +10,4 @@ pub mod LexAgain
 pub mod LexFaults
 pub mod LexSteps
 pub mod LexFew
+pub mod Lexed
