@@ -3,11 +3,11 @@ use Rattle.std.proofs.Common.{◌≡◌, ◌≤◌, ◌<◌, ◌+◌, ◌-◌, �
 use Rattle.std.proofs.lemmas.List.{length-drop}
 use Rattle.lint_base.specs.declared.place.Refusal.{Refusal}
 use Rattle.sql_lex.specs.declared.token.Token.{Token}
-use Rattle.sql_lex.specs.declared.lex_found.Found.{Found}
-use Rattle.sql_lex.specs.declared.lex_found.Found.TheVariants.{Lexeme, Flaw}
+use Rattle.sql_lex.specs.declared.found.Found.{Found}
+use Rattle.sql_lex.specs.declared.found.Found.TheVariants.{Lexeme, Flaw}
 use Rattle.sql_lex.specs.Tokens.{Spells}
 use Rattle.sql_lex.specs.Faults.{IsFaulty}
-use Rattle.sql_lex.specs.Lexing.{after_gap, first_found}
+use Rattle.sql_lex.specs.inner.Lexing.{after_gap, first_found}
 use Rattle.sql_lex.proofs.LexGaps.{after_gap-le}
 use Rattle.sql_lex.proofs.LexScan.{Reads, token_of, front_found, scan_more, scan_ends, scan_stops}
 
