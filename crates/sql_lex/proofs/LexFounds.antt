@@ -16,13 +16,13 @@ use Rattle.sql_lex.specs.declared.token.Sign.{Sign as SignOf}
 use Rattle.sql_lex.specs.declared.token.Sign.TheVariants as sign
 use Rattle.sql_lex.specs.declared.token.Kind.{Kind}
 use Rattle.sql_lex.specs.declared.token.Kind.TheVariants as kind
-use Rattle.sql_lex.specs.declared.lex_found.Found.{Found}
-use Rattle.sql_lex.specs.declared.lex_found.Found.TheVariants.{Lexeme, Flaw}
+use Rattle.sql_lex.specs.declared.found.Found.{Found}
+use Rattle.sql_lex.specs.declared.found.Found.TheVariants.{Lexeme, Flaw}
 use Rattle.sql_lex.specs.Bytes.{is_white, is_letter, is_digit, is_quote, goes_on_word, decimal_value}
 use Rattle.sql_lex.specs.Classes.{begins_with_dash}
 use Rattle.sql_lex.specs.Tokens.{IsSpelling, IsSign, IsDigits, ends_before, sign_ends_before, begins_without, doubled}
 use Rattle.sql_lex.specs.Faults.{IsFault, begins_sign}
-use Rattle.sql_lex.specs.Lexing.{front_len, bad_byte, word_found, within_limit, number_found, unquoted, closed_found, quoted_found, sign_found, less_found, greater_found, not_found, sign_at, first_found}
+use Rattle.sql_lex.specs.inner.Lexing.{front_len, bad_byte, word_found, within_limit, number_found, unquoted, closed_found, quoted_found, sign_found, less_found, greater_found, not_found, sign_at, first_found}
 use Rattle.sql_lex.proofs.LexGaps.{Dark}
 use Rattle.sql_lex.proofs.LexFront.{front_len-le, front_passes, front_stops}
 use Rattle.sql_lex.proofs.LexSpelling.{limit_is, limit_le}

@@ -4,7 +4,7 @@ use Rattle.std.specs.List.{position_or_len, list_all}
 use Rattle.std.proofs.lemmas.Bool.{lt-ltb, le-ltb, cases_lt, and_parts, not-true}
 use Rattle.sql_lex.specs.Bytes.{goes_on_word, is_digit}
 use Rattle.sql_lex.specs.Tokens.{begins_without}
-use Rattle.sql_lex.specs.Lexing.{front_len}
+use Rattle.sql_lex.specs.inner.Lexing.{front_len}
 
 pub front_len-le : (p : ℕ → Bool) (xs : List ℕ) → front_len p xs ≤ length xs
 front_len-le p [] = omega arith

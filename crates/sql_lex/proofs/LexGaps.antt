@@ -6,7 +6,7 @@ use Rattle.memchr.specs.Find.{Nowhere, NoneBefore, Passes, is_byte}
 use Rattle.sql_lex.specs.Bytes.{is_white}
 use Rattle.sql_lex.specs.Classes.{begins_with_dash}
 use Rattle.sql_lex.specs.Gaps.{is_gap_from}
-use Rattle.sql_lex.specs.Lexing.{after_gap}
+use Rattle.sql_lex.specs.inner.Lexing.{after_gap}
 
 -- no byte of the rest is found where none of the whole is
 pub nowhere_behind : (test : ℕ → Bool) (b : ℕ) (bs : List ℕ) (n : ℕ) → Nowhere (Passes test (b ∷ bs)) 0 (suc n) → Nowhere (Passes test bs) 0 n

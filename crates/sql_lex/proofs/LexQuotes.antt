@@ -8,8 +8,8 @@ use Rattle.sql_lex.specs.Tokens.{doubled, begins_without}
 use Rattle.std.specs.Str.{chars, IsUtf8, is_utf8}
 use Rattle.std.proofs.lemmas.Str.{IsUtf8-from_is_utf8, is_utf8-from_IsUtf8}
 use Rattle.sql_lex.specs.declared.token.Kind.TheVariants as kind
-use Rattle.sql_lex.specs.declared.lex_found.Found.TheVariants.{Lexeme}
-use Rattle.sql_lex.specs.Lexing.{unquoted, with_front, bad_byte, closed_found}
+use Rattle.sql_lex.specs.declared.found.Found.TheVariants.{Lexeme}
+use Rattle.sql_lex.specs.inner.Lexing.{unquoted, with_front, bad_byte, closed_found}
 use Rattle.sql_lex.proofs.LexGaps.{nowhere_behind, not_here}
 
 pub with_front-nil : (found : Option (List ℕ × List ℕ)) → with_front [] found ≡ found
@@ -38,10 +38,6 @@ pub quote_next : (mark : ℕ) (text : List ℕ) (i : ℕ) → NoneBefore (Passes
     → unquoted mark false text ≡ with_front (take i text) (unquoted mark true (drop (i + 1) text))
 quote_next mark text i found =
     quote_some mark text i found.0.high found.0.before found.1 ∙ ap (λ (n : ℕ). with_front (take i text) (unquoted mark true (drop n text))) (sym (add-one i))
-
--- behind a mark
-pub mark_doubled : (mark next : ℕ) (behind : List ℕ) → next ≡ mark → unquoted mark true (next ∷ behind) ≡ with_front (mark ∷ []) (unquoted mark false behind)
-mark_doubled mark next behind e = rw (eq-eqb next mark e) (ap (λ (x : ℕ). with_front (x ∷ []) (unquoted mark false behind)) e)
 
 pub mark_ends : (mark : ℕ) (behind : List ℕ) → begins_without (λ b. eqb b mark) behind ≡ true → unquoted mark true behind ≡ Some ([], behind)
 mark_ends mark [] stop = refl

@@ -5,11 +5,11 @@ use Rattle.std.proofs.lemmas.List.{length-drop, length-take-le, take-append-drop
 use Rattle.lint_base.specs.declared.place.Fault.{Fault}
 use Rattle.sql_lex.specs.declared.token.Token.{Token}
 use Rattle.sql_lex.specs.declared.token.Kind.{Kind}
-use Rattle.sql_lex.specs.declared.lex_found.Found.{Found}
-use Rattle.sql_lex.specs.declared.lex_found.Found.TheVariants.{Lexeme, Flaw}
+use Rattle.sql_lex.specs.declared.found.Found.{Found}
+use Rattle.sql_lex.specs.declared.found.Found.TheVariants.{Lexeme, Flaw}
 use Rattle.sql_lex.specs.Tokens.{Begins, BeginsWith, Spells}
 use Rattle.sql_lex.specs.Faults.{IsFaulty}
-use Rattle.sql_lex.specs.Lexing.{after_gap, first_found}
+use Rattle.sql_lex.specs.inner.Lexing.{after_gap, first_found}
 use Rattle.sql_lex.proofs.LexGaps.{after_gap-le, gap_takes, last_takes, left_dark}
 use Rattle.sql_lex.proofs.LexFounds.{IsFound, IsLexeme, found_takes}
 

@@ -8,7 +8,7 @@ use Rattle.std.proofs.lemmas.List.{map_more, append-nil, take_all, drop_more, dr
 use Rattle.std.proofs.lemmas.Bool.{and_from, leb-true, leb-false, lt-leb}
 use Rattle.lint_tables.specs.Words.{upper}
 use Rattle.sql_lex.specs.Bytes.{decimal_value}
-use Rattle.sql_lex.specs.Lexing.{within_limit}
+use Rattle.sql_lex.specs.inner.Lexing.{within_limit}
 
 upper-lt : (b : ℕ) → b < 256 → upper b < 256
 upper-lt b lt = elim (leb 97 b && leb b 122) as (λ t. cond t (b - 32) b < 256) [ true ↦ omega arith | false ↦ lt ]
@@ -60,20 +60,7 @@ pub record Counts (digits : List ℕ) (value i : ℕ) : Type 0 where
   pub whole : decimal_value value (drop i digits) ≡ decimal_value 0 digits
   pub fits : within_limit value ≡ Some value
 
-pub counts_start : (digits : List ℕ) → Counts digits 0 0
-counts_start digits = record { whole = refl; fits = refl }
-
-pub counts_more : (digits : List ℕ) (value i b next : ℕ) → i < length digits → b ≡ get_or digits i 0 → within_limit (decimal_value value (b ∷ [])) ≡ Some next → Counts digits value i → Counts digits next (i + 1)
-counts_more digits value i b next lt at more counts =
-    let is : next ≡ 10 * value + (b - 48) = limit_is _ next more in
-    let step : decimal_value value (drop i digits) ≡ decimal_value next (drop (i + 1) digits) = ap (decimal_value value) (drop_more digits i 0 lt ∙ ap (λ (x : ℕ). x ∷ drop (i + 1) digits) (sym at)) ∙ ap (λ (x : ℕ). decimal_value x (drop (i + 1) digits)) (sym is) in
-    record { whole = sym step ∙ counts.whole; fits = ap within_limit is ∙ more }
-
 pub counts_stop : (digits : List ℕ) (value i b : ℕ) → i < length digits → b ≡ get_or digits i 0 → within_limit (decimal_value value (b ∷ [])) ≡ None → Counts digits value i → within_limit (decimal_value 0 digits) ≡ None
 counts_stop digits value i b lt at none counts =
     let step : decimal_value value (drop i digits) ≡ decimal_value value (b ∷ drop (i + 1) digits) = ap (decimal_value value) (drop_more digits i 0 lt ∙ ap (λ (x : ℕ). x ∷ drop (i + 1) digits) (sym at)) in
     ap within_limit (sym counts.whole ∙ step) ∙ too_large value b (drop (i + 1) digits) none
-
-pub counts_done : (digits : List ℕ) (value i : ℕ) → length digits ≤ i → Counts digits value i → within_limit (decimal_value 0 digits) ≡ Some value
-counts_done digits value i le counts =
-    ap within_limit (sym counts.whole ∙ ap (decimal_value value) (drop_all i digits le)) ∙ counts.fits

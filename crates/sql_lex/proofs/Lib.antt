@@ -6,7 +6,5 @@ pub mod LexGaps
 pub mod LexQuotes
 pub mod LexFounds
 pub mod LexScan
-pub mod LexAgain
-pub mod LexFaults
-pub mod LexSteps
 pub mod LexFew
+pub mod Lexed

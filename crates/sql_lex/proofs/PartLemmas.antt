@@ -7,7 +7,7 @@ use Rattle.std.proofs.lemmas.List.Elements.{All-nil, All-cons, All-append}
 use Rattle.lint_base.specs.declared.place.Span.{Span}
 use Rattle.sql_lex.specs.Bytes.{is_quote}
 use Rattle.sql_lex.specs.Classes.{Class, Blank, Solid, Separator, Inside, Nothing, Comment, Quote, classes, begins_with_dash, blank_or_solid}
-use Rattle.sql_lex.specs.Runs.{grown_to, to_come}
+use Rattle.sql_lex.specs.inner.Runs.{grown_to, to_come}
 use Rattle.sql_lex.specs.Within.{IsWithin}
 use Rattle.sql_lex.specs.Pieces.{parts_from, solid_places, last_of, spanned, spans_of, pieces_from, pieces}
 

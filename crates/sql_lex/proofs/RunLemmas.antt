@@ -9,7 +9,7 @@ use Rattle.memchr.specs.Find.{Nowhere, NoneBefore, Passes, is_byte}
 use Rattle.lint_base.specs.declared.place.Span.{Span}
 use Rattle.sql_lex.specs.Bytes.{is_white, is_quote}
 use Rattle.sql_lex.specs.Classes.{Class, Blank, Solid, Nothing, Comment, Quote, classes}
-use Rattle.sql_lex.specs.Runs.{grown_to, to_come, after_run}
+use Rattle.sql_lex.specs.inner.Runs.{grown_to, to_come, after_run}
 use Rattle.sql_lex.proofs.LexGaps.{nowhere_behind, not_here}
 
 abbrev pub span_of : ℕ → ℕ → Span
@@ -121,14 +121,6 @@ quote_unclosed mark text (suc n) from at none within white dark =
     quote_open mark text n from at at none (omega arith) white solid ∙ sym (white_outside (drop (suc n) text) (Some (span_of from (at + suc n))) (at + suc n) white)
 
 -- ---- runs at the front of a text
-
--- behind two dashes
-pub comment_run : (text : List ℕ) (len : ℕ) (solid : Option Span) (at : ℕ) → ((solid : Option Span) (at : ℕ) → to_come solid at (classes Comment text) ≡ to_come solid (at + len) (classes Nothing (drop len text)))
-    → to_come solid at (classes Nothing (45 ∷ 45 ∷ text)) ≡ after_run Blank (2 + len) solid at (drop (2 + len) (45 ∷ 45 ∷ text))
-comment_run text len solid at inner =
-    let two : 2 + len ≡ suc (suc len) = omega arith in
-    let place : at + 1 + 1 + len ≡ at + suc (suc len) = omega arith in
-    rw two (inner solid (at + 1 + 1) ∙ ap (λ (n : ℕ). to_come solid n (classes Nothing (drop len text))) place)
 
 grown_once : (solid : Option Span) (at : ℕ) → grown_to solid at 1 ≡ span_of (grown_to solid at 1).from (at + 1)
 grown_once None at = refl

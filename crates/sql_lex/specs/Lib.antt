@@ -4,9 +4,7 @@ pub mod Pieces
 pub mod Gaps
 pub mod Tokens
 pub mod Faults
-pub mod Seen
-pub mod Runs
 pub mod Rest
 pub mod Refused
-pub mod Lexing
 pub mod Within
+pub mod inner

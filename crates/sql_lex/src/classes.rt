@@ -4,10 +4,10 @@ ghost use Rattle.std.specs.List.{list_all};
 ghost use Rattle.lint_base.specs.declared.place.Span.{Span};
 ghost use Rattle.sql_lex.specs.Bytes.{is_white, is_quote};
 ghost use Rattle.sql_lex.specs.Classes.{Nothing, Comment, Quote, classes};
-ghost use Rattle.sql_lex.specs.Runs.{to_come, after_run};
-ghost use Rattle.sql_lex.specs.Seen.{class_seen};
+ghost use Rattle.sql_lex.specs.inner.Runs.{to_come, after_run};
+ghost use Rattle.sql_lex.specs.inner.Seen.{class_seen};
 
-use crate::lex_bytes::is_white;
+use crate::bytes::is_white;
 use memchr::memchr;
 
 /// What a run of bytes is to the parts between semicolons.
@@ -52,12 +52,14 @@ fn dark_len(text: &[u8]) -> usize
     }
 }
 
-/// How many bytes a quote has behind its opening mark: up to the next such mark or, where none comes,
-/// without the white space at the end of the text.
+/// How many bytes a quote has behind its opening mark: up to the next such mark or, where none
+/// comes, without the white space at the end of the text.
 fn quote_len(mark: u8, text: &[u8]) -> usize
     requires { is_quote mark ≡ true }
-    ensures to_come { (from at : ℕ) → to_come (Some (record { from = from; to = at })) at (classes (Quote mark) text.now)
-        ≡ to_come (Some (record { from = from; to = at + result })) (at + result) (classes Nothing (drop result text.now)) }
+    ensures to_come { (from at : ℕ) → to_come (Some (record { from = from; to = at })) at
+        (classes (Quote mark) text.now)
+        ≡ to_come (Some (record { from = from; to = at + result })) (at + result)
+        (classes Nothing (drop result text.now)) }
     ensures within { result ≤ length text.now }
 {
     match memchr(mark, text) {

@@ -1,21 +1,21 @@
 //! The lexer: the tokens of a part of a text.
 ghost use Rattle.std.specs.Prelude.{◌≡◌, ◌<◌, ◌≤◌, ◌^◌, length, slice_range, IfOk, IfErr};
-ghost use Rattle.sql_lex.specs.Lexing.{first_found};
+ghost use Rattle.sql_lex.specs.inner.Lexing.{first_found};
 ghost use Rattle.sql_lex.specs.Refused.{IsRefused};
 ghost use Rattle.sql_lex.specs.Tokens.{Spells};
 
-use crate::lex_bytes::{is_digit, is_letter};
-use crate::lex_found::Found;
-use crate::lex_gap::after_gap;
-use crate::lex_quote::first_quoted;
-use crate::lex_sign::first_sign;
-use crate::lex_word::{first_number, first_word};
+use crate::bytes::{is_digit, is_letter};
+use crate::found::Found;
+use crate::gaps::after_gap;
+use crate::quotes::first_quoted;
+use crate::signs::first_sign;
 use crate::token::Token;
+use crate::words::{first_number, first_word};
 use lint_base::{NoMemory, Refusal, Span, TextStop};
 use std::alloc::Global;
 
 /// The token at the front of the text, or the fault in its place.
-#[tactic(auto, unfolding(crate::specs::Lexing::first_found))]
+#[tactic(auto, unfolding(crate::specs::inner::Lexing::first_found))]
 fn first_found(alloc: Global, text: &[u8]) -> Result<Found, NoMemory>
     requires { length text.now < 2 ^ 32 }
     ensures { IfOk result (λ found. found ≡ first_found text.now) }
@@ -28,11 +28,11 @@ fn first_found(alloc: Global, text: &[u8]) -> Result<Found, NoMemory>
     }
 }
 
-/// The tokens of a part of a text, in order, each with its place in the whole text, by byte offsets. Where
-/// the part has a lexical fault, the first from the left refuses it:
+/// The tokens of a part of a text, in order, each with its place in the whole text, by byte
+/// offsets. Where the part has a lexical fault, the first from the left refuses it:
 ///
-/// - `BadByte` at a byte that begins no token, or at the opening quote of a closed quoted token that is no
-///   UTF-8 or a delimited name of no characters: one byte;
+/// - `BadByte` at a byte that begins no token, or at the opening quote of a closed quoted token
+///   that is no UTF-8 or a delimited name of no characters: one byte;
 /// - `OpenQuote` at an opening quote that nothing closes before the part ends: one byte;
 /// - `BigNumber` at a number above 9223372036854775807: its digits.
 ///
@@ -41,9 +41,11 @@ pub fn lex(alloc: Global, text: &[u8], part: Span) -> Result<Vec<Token>, TextSto
     requires order { part.from ≤ part.to }
     requires within { part.to ≤ length text.now }
     requires short { length text.now < 2 ^ 32 }
-    ensures tokens { IfOk result (λ tokens. Spells part.from (slice_range text.now part.from part.to) tokens.items) }
+    ensures tokens { IfOk result (λ tokens. Spells part.from
+        (slice_range text.now part.from part.to) tokens.items) }
     ensures few { IfOk result (λ tokens. length tokens.items ≤ length text.now) }
-    ensures refused { IfErr result (λ stop. IsRefused part.from (slice_range text.now part.from part.to) stop) }
+    ensures refused { IfErr result (λ stop. IsRefused part.from
+        (slice_range text.now part.from part.to) stop) }
 {
     let mut tokens = Vec::new(alloc);
     let mut rest = &text[part.from as usize..part.to as usize];

@@ -6,10 +6,10 @@ ghost use Rattle.sql_lex.specs.Within.{IsWithin};
 
 use crate::pieces::Pieces;
 
-/// The parts between the semicolons that stand outside quotes and comments, in order, each from its
-/// first to its last byte that is neither white space nor comment, by byte offsets in the text. A part
-/// without such a byte is left out. In a quote that is not closed `--` begins no comment, and white
-/// space is white space.
+/// The parts between the semicolons that stand outside quotes and comments, in order, each from
+/// its first to its last byte that is neither white space nor comment, by byte offsets in the
+/// text. A part without such a byte is left out. In a quote that is not closed `--` begins no
+/// comment, and white space is white space.
 ///
 /// It takes no memory, and the time is linear in the text.
 #[tactic(auto, using(crate::proofs::PartLemmas::pieces_within))]

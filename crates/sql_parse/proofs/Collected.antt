@@ -4,8 +4,8 @@ use Rattle.std.proofs.lemmas.List.{append-nil, length-append}
 use Rattle.sql_lex.specs.declared.token.Token.{Token}
 use Rattle.sql_parse.specs.declared.front.ParseStop.{ParseStop}
 use Rattle.sql_parse.specs.declared.front.ParseStop.TheVariants as stop
-use Rattle.sql_parse.specs.reading.Tokens.{Read, found, and_then, read_parts}
-use Rattle.sql_parse.specs.reading.Gives.{Stops}
+use Rattle.sql_parse.specs.inner.readers.Tokens.{Read, found, and_then, read_parts}
+use Rattle.sql_parse.specs.inner.readers.Gives.{Stops}
 use Rattle.sql_parse.proofs.Shorter.{Below, parts_step, parts_end}
 
 pub then_then : {A B C : Type 0} (f : Read A) (k : A → List Token → Read B) (m : B → List Token → Read C) → and_then (and_then f k) m ≡ and_then f (λ a rest. and_then (k a rest) m)

@@ -14,9 +14,9 @@ use Rattle.sql_parse.specs.grammar.Words.{word, sign, span_of, AND, EXISTS, IN, 
 use Rattle.sql_parse.specs.grammar.Terms.{SpellsTerm}
 use Rattle.sql_parse.specs.grammar.Predicates.{SpellsNot}
 use Rattle.sql_parse.specs.grammar.Selects.{alone_or, Level, Disjunction, Conjunction, Factor, Primary}
-use Rattle.sql_parse.specs.reading.Tokens.{Read, found, and_then, is_word, is_open, is_close, at_head, expect, read_after, read_separated}
-use Rattle.sql_parse.specs.reading.Predicates.{comparison_rest, list_or_select, in_rest, negatable, predicate_from, predicate_rest, read_predicate}
-use Rattle.sql_parse.specs.reading.Selects.{read_subquery, read_parenthesized, read_exists, read_primary, read_factor, read_conjunction, read_disjunction}
+use Rattle.sql_parse.specs.inner.readers.Tokens.{Read, found, and_then, is_word, is_open, is_close, at_head, expect, read_after, read_separated}
+use Rattle.sql_parse.specs.inner.readers.Predicates.{comparison_rest, list_or_select, in_rest, negatable, predicate_from, predicate_rest, read_predicate}
+use Rattle.sql_parse.specs.inner.readers.Selects.{read_subquery, read_parenthesized, read_exists, read_primary, read_factor, read_conjunction, read_disjunction}
 use Rattle.sql_parse.proofs.CompleteTokens.{place_is, kind_rank, place_rank, rank}
 use Rattle.sql_parse.proofs.CompleteTerms.{term_read}
 use Rattle.sql_parse.proofs.CompletePredicates.{Heads, not_rank, predicate_started, negatable_started}

@@ -10,9 +10,9 @@ use Rattle.sql_tree.specs.declared.select.EntryTree.{EntryTree}
 use Rattle.sql_tree.specs.declared.select.CondTree.{CondTree}
 use Rattle.sql_parse.specs.grammar.Words.{word, sign, span_of, MayBe, CROSS, FROM, INNER, JOIN, ON, SELECT, WHERE}
 use Rattle.sql_parse.specs.grammar.Selects.{entry_tree}
-use Rattle.sql_parse.specs.reading.Tokens.{Read, found, and_then, is_word, is_comma, is_open, is_close, at_head, expect, read_alone, read_after, read_parts}
-use Rattle.sql_parse.specs.reading.Items.{read_quantifier, read_items, read_entry}
-use Rattle.sql_parse.specs.reading.Selects.{Parts, placed, is_join, without_inner, cross_joined, inner_joined, read_join, read_group, read_groups, read_where, read_select, read_subquery}
+use Rattle.sql_parse.specs.inner.readers.Tokens.{Read, found, and_then, is_word, is_comma, is_open, is_close, at_head, expect, read_alone, read_after, read_parts}
+use Rattle.sql_parse.specs.inner.readers.Items.{read_quantifier, read_items, read_entry}
+use Rattle.sql_parse.specs.inner.readers.Selects.{Parts, placed, is_join, without_inner, cross_joined, inner_joined, read_join, read_group, read_groups, read_where, read_select, read_subquery}
 use Rattle.sql_parse.proofs.CompleteTokens.{place_is, place_rank, rank, no_word}
 use Rattle.sql_parse.proofs.CompleteLists.{after_read, alone_read, Looped, loop_end, loop_more, loop_whole}
 

@@ -15,9 +15,9 @@ use Rattle.sql_parse.specs.grammar.Terms as term
 use Rattle.sql_parse.specs.grammar.Terms.{SpellsBareColumn, SpellsLiteral, SpellsColumn}
 use Rattle.sql_parse.specs.grammar.Items as item
 use Rattle.sql_parse.specs.grammar.Items.{SpellsQuantifier, SpellsItem, SpellsItems, SpellsEntry}
-use Rattle.sql_parse.specs.reading.Tokens.{found, and_then, is_word, is_dot, is_star, is_open, is_name, at_head, expect, place_before, read_after}
-use Rattle.sql_parse.specs.reading.Terms.{name_from, read_name, read_alias}
-use Rattle.sql_parse.specs.reading.Items.{read_quantifier, item_after, dotted_item, named_item, read_item, read_items, read_entry}
+use Rattle.sql_parse.specs.inner.readers.Tokens.{found, and_then, is_word, is_dot, is_star, is_open, is_name, at_head, expect, place_before, read_after}
+use Rattle.sql_parse.specs.inner.readers.Terms.{name_from, read_name, read_alias}
+use Rattle.sql_parse.specs.inner.readers.Items.{read_quantifier, item_after, dotted_item, named_item, read_item, read_items, read_entry}
 use Rattle.sql_parse.proofs.CompleteTokens.{place_is, kind_rank, place_rank, rank, no_dot, no_name, no_word}
 use Rattle.sql_parse.proofs.CompleteLists.{list_read}
 use Rattle.sql_parse.proofs.CompleteTerms.{literal_read, literal_not_named}

@@ -6,7 +6,7 @@ use Rattle.sql_lex.specs.declared.token.Kind.{Kind}
 use Rattle.sql_lex.specs.declared.token.Token.{Token}
 use Rattle.sql_parse.specs.grammar.Words.{sign}
 use Rattle.sql_parse.specs.grammar.Lists.{SpellsMore, SpellsList}
-use Rattle.sql_parse.specs.reading.Tokens.{Read, found, and_then, is_comma, at_head, expect, read_while, read_parts, read_alone, read_after, read_separated}
+use Rattle.sql_parse.specs.inner.readers.Tokens.{Read, found, and_then, is_comma, at_head, expect, read_while, read_parts, read_alone, read_after, read_separated}
 use Rattle.sql_parse.proofs.CompleteTokens.{kind_rank, rank, no_comma}
 
 -- what stands after a token is read after it

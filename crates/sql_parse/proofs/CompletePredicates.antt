@@ -14,10 +14,10 @@ use Rattle.sql_parse.specs.grammar.Terms as term
 use Rattle.sql_parse.specs.grammar.Terms.{SpellsTerm, SpellsValue, SpellsColumn}
 use Rattle.sql_parse.specs.grammar.Predicates as predicate
 use Rattle.sql_parse.specs.grammar.Predicates.{SpellsNot, SpellsPredicate, SpellsCompare, SpellsIsNull, SpellsBetween, SpellsInList}
-use Rattle.sql_parse.specs.reading.Tokens.{Read, found, and_then, is_word, is_comma, is_open, is_close, is_star, at_head, expect, read_separated}
-use Rattle.sql_parse.specs.reading.Terms.{read_term, read_value}
-use Rattle.sql_parse.specs.reading.Predicates.{read_not, comparison_rest, null_rest, between_rest, values_rest, list_or_select, in_rest, negatable, predicate_from, predicate_rest, read_predicate}
-use Rattle.sql_parse.proofs.CompleteTokens.{place_is, one_found, kind_rank, place_rank, rank}
+use Rattle.sql_parse.specs.inner.readers.Tokens.{Read, found, and_then, is_word, is_comma, is_open, is_close, is_star, at_head, expect, read_separated}
+use Rattle.sql_parse.specs.inner.readers.Terms.{read_term, read_value}
+use Rattle.sql_parse.specs.inner.readers.Predicates.{read_not, comparison_rest, null_rest, between_rest, values_rest, list_or_select, in_rest, negatable, predicate_from, predicate_rest, read_predicate}
+use Rattle.sql_parse.proofs.CompleteTokens.{place_is, kind_rank, place_rank, rank}
 use Rattle.sql_parse.proofs.CompleteLists.{list_read}
 use Rattle.sql_parse.proofs.CompleteTerms.{term_read, value_read}
 
@@ -142,9 +142,3 @@ module _ (sub : Bool → List Token → Read SelectTree) where
   predicate_read tree tokens (predicate.is_null s) rest r = is_null_read tree tokens s rest
   predicate_read tree tokens (predicate.between s) rest r = between_read tree tokens s rest r
   predicate_read tree tokens (predicate.in_list s) rest r = in_list_read tree tokens s rest
-
-pub one_predicate : (tokens : List Token) → (left right : CondTree) → SpellsPredicate left tokens → SpellsPredicate right tokens → left ≡ right
-unfolding rank
-one_predicate tokens left right l r =
-    let sub : Bool → List Token → Read SelectTree = λ scalar rest. None in
-    one_found left right [] (read_predicate sub (tokens ++ [])) (predicate_read sub left tokens l [] (lit≤ tt)) (predicate_read sub right tokens r [] (lit≤ tt))

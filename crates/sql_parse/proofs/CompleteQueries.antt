@@ -12,9 +12,9 @@ use Rattle.sql_parse.specs.grammar.Words.{span_of}
 use Rattle.sql_parse.specs.grammar.Terms.{SpellsBareColumn}
 use Rattle.sql_parse.specs.grammar.Queries as query
 use Rattle.sql_parse.specs.grammar.Queries.{SpellsDirection, SpellsKey, SpellsOrder, SpellsQuery}
-use Rattle.sql_parse.specs.reading.Tokens.{found, and_then, is_word, is_name, is_called, at_head, expect, all_read, read_after}
-use Rattle.sql_parse.specs.reading.Selects.{Parts, placed, read_select, read_cond}
-use Rattle.sql_parse.specs.reading.Queries.{is_direction, directed, read_key, read_order, read_query, query_of}
+use Rattle.sql_parse.specs.inner.readers.Tokens.{found, and_then, is_word, is_name, is_called, at_head, expect, all_read, read_after}
+use Rattle.sql_parse.specs.inner.readers.Selects.{Parts, placed, read_select, read_cond}
+use Rattle.sql_parse.specs.inner.readers.Queries.{is_direction, directed, read_key, read_order, read_query, query_of}
 use Rattle.sql_parse.proofs.CompleteTokens.{kind_rank, place_rank, rank, no_name, not_called}
 use Rattle.sql_parse.proofs.CompleteLists.{list_read}
 use Rattle.sql_parse.proofs.CompleteTerms.{number_is_read, bare_read, column_named}

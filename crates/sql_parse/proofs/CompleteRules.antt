@@ -12,9 +12,9 @@ use Rattle.sql_parse.specs.grammar.Words.{word, called, sign, CHECK, CONSTRAINT,
 use Rattle.sql_parse.specs.grammar.Names.{SpellsNames}
 use Rattle.sql_parse.specs.grammar.Tables as table
 use Rattle.sql_parse.specs.grammar.Tables.{SpellsConstraint, SpellsReference, SpellsCheck, SpellsColumnRule, SpellsColumnRules, SpellsTableRule}
-use Rattle.sql_parse.specs.reading.Tokens.{found, and_then, is_word, is_open, is_close, is_name, is_called, at_head, expect, read_after}
-use Rattle.sql_parse.specs.reading.Terms.{read_names}
-use Rattle.sql_parse.specs.reading.Tables.{read_reference, foreign_tree, begins_rule, read_check, word_rule, column_rule_from, read_column_rule, read_named_rule, read_rules, read_key_names, table_rule_from, read_table_rule}
+use Rattle.sql_parse.specs.inner.readers.Tokens.{found, and_then, is_word, is_open, is_close, is_name, is_called, at_head, expect, read_after}
+use Rattle.sql_parse.specs.inner.readers.Terms.{read_names}
+use Rattle.sql_parse.specs.inner.readers.Tables.{read_reference, foreign_tree, begins_rule, read_check, word_rule, column_rule_from, read_column_rule, read_named_rule, read_rules, read_key_names, table_rule_from, read_table_rule}
 use Rattle.sql_parse.proofs.CompleteTokens.{place_rank, rank, no_name, no_open, no_word, not_called}
 use Rattle.sql_parse.proofs.CompleteLists.{after_read, Looped, loop_end, loop_more, loop_whole}
 use Rattle.sql_parse.proofs.CompleteSelects.{cond_read, close_rank}

@@ -17,11 +17,11 @@ use Rattle.sql_parse.specs.grammar.Tables as table
 use Rattle.sql_parse.specs.grammar.Tables.{SpellsDefault, SpellsConstraint, SpellsElement, SpellsCreate}
 use Rattle.sql_parse.specs.grammar.Schemas as schema
 use Rattle.sql_parse.specs.grammar.Schemas.{SpellsStatement, SpellsSchema}
-use Rattle.sql_parse.specs.reading.Tokens.{found, and_then, is_word, is_open, is_close, is_semicolon, is_name, is_called, at_head, expect, read_after}
-use Rattle.sql_parse.specs.reading.Terms.{name_from, read_name}
-use Rattle.sql_parse.specs.reading.Tables.{read_type, read_default, read_constraint, read_rules, read_table_rule, read_declared_column, read_element, read_elements, read_create}
-use Rattle.sql_parse.specs.reading.Schemas.{read_statement, read_next_statement, read_schema, schema_of}
-use Rattle.sql_parse.proofs.CompleteTokens.{one_found, all_found, rank}
+use Rattle.sql_parse.specs.inner.readers.Tokens.{found, and_then, is_word, is_open, is_close, is_semicolon, is_name, is_called, at_head, expect, read_after}
+use Rattle.sql_parse.specs.inner.readers.Terms.{name_from, read_name}
+use Rattle.sql_parse.specs.inner.readers.Tables.{read_type, read_default, read_constraint, read_rules, read_table_rule, read_declared_column, read_element, read_elements, read_create}
+use Rattle.sql_parse.specs.inner.readers.Schemas.{read_statement, read_next_statement, read_schema, schema_of}
+use Rattle.sql_parse.proofs.CompleteTokens.{all_found, rank}
 use Rattle.sql_parse.proofs.CompleteLists.{after_read, Looped, loop_end, loop_more, loop_whole, list_read}
 use Rattle.sql_parse.proofs.CompleteSelects.{close_rank}
 use Rattle.sql_parse.proofs.CompleteTables.{type_read, default_read, constraint_read}
@@ -87,11 +87,6 @@ create_read depth tree tokens s l rest =
     let fits : length (word CREATE s.create_at ∷ word TABLE s.table_at ∷ name_token tree.name s.quoted ∷ sign Open s.open_at ∷ s.listed ++ sign Close s.close_at ∷ []) ≤ depth = rw s.whole at l in
     let size = length-append s.listed (sign Close s.close_at ∷ []) in
     rw (s.whole, append_assoc s.listed (sign Close s.close_at ∷ []) rest, elements_read depth tree.elements s.open_at s.listed s.close_at rest s.elements (omega arith)) refl
-
-pub one_table : (tokens : List Token) → (left right : CreateTable) → SpellsCreate left tokens → SpellsCreate right tokens → left ≡ right
-one_table tokens left right l r =
-    let depth : ℕ = length tokens in
-    one_found left right [] (read_create depth (tokens ++ [])) (create_read depth left tokens l (omega arith) []) (create_read depth right tokens r (omega arith) [])
 
 -- a statement
 create_head : (tree : CreateTable) (tokens : List Token) → SpellsCreate tree tokens → (rest : List Token) → at_head (is_word CREATE) (tokens ++ rest) ≡ true

@@ -19,10 +19,10 @@ use Rattle.sql_parse.specs.grammar.Predicates.{SpellsPredicate, SpellsNot}
 use Rattle.sql_parse.specs.grammar.Items.{SpellsQuantifier, SpellsItems, SpellsEntry}
 use Rattle.sql_parse.specs.grammar.Selects as c
 use Rattle.sql_parse.specs.grammar.Selects.{alone_or, select_tree, entry_tree, Level, Disjunction, Conjunction, Factor, Primary, SpellsCond, SpellsJoined, SpellsSubquery, SpellsSelect, SpellsWhere, SpellsGroups, SpellsGroup, SpellsJoins}
-use Rattle.sql_parse.specs.reading.Tokens.{Read, found, is_word, is_open, at_head}
-use Rattle.sql_parse.specs.reading.Predicates.{read_predicate}
-use Rattle.sql_parse.specs.reading.Selects.{Parts, placed, read_group, read_where, read_select, read_subquery, read_factor, read_conjunction, read_cond}
-use Rattle.sql_parse.proofs.CompleteTokens.{one_found, kind_rank, place_rank, rank, no_comma, no_word}
+use Rattle.sql_parse.specs.inner.readers.Tokens.{Read, found, is_word, is_open, at_head}
+use Rattle.sql_parse.specs.inner.readers.Predicates.{read_predicate}
+use Rattle.sql_parse.specs.inner.readers.Selects.{Parts, placed, read_group, read_where, read_select, read_subquery, read_factor, read_conjunction, read_cond}
+use Rattle.sql_parse.proofs.CompleteTokens.{kind_rank, place_rank, rank, no_comma, no_word}
 use Rattle.sql_parse.proofs.CompleteLists.{Separated, separated_read, separated_last, separated_more}
 use Rattle.sql_parse.proofs.CompletePredicates.{Heads, begun_heads, predicate_heads, predicate_read}
 use Rattle.sql_parse.proofs.CompleteItems.{MayHave, items_quantified, items_read, entry_read}
@@ -403,21 +403,3 @@ mutual
 pub cond_read : (tree : CondTree) (tokens : List Token) → SpellsCond Disjunction tree tokens → (flat : Bool) (depth : ℕ) → MayRead flat tree → suc (length tokens) ≤ depth → (rest : List Token) → 4 ≤ rank rest →
     read_cond flat depth (tokens ++ rest) ≡ found tree rest
 cond_read tree tokens s flat depth m l rest r = whole_cond tree tokens (cond_reads Disjunction tree tokens s) flat depth m l rest r
-
-pub one_condition : (tokens : List Token) → (left right : CondTree) → SpellsCond Disjunction left tokens → SpellsCond Disjunction right tokens → left ≡ right
-unfolding rank
-one_condition tokens left right l r =
-    let depth : ℕ = suc (length tokens) in
-    one_found left right [] (read_cond false depth (tokens ++ []))
-    (cond_read left tokens l false depth (inl refl) (omega arith) [] (lit≤ tt)) (cond_read right tokens r false depth (inl refl) (omega arith) [] (lit≤ tt))
-
-pub one_select : (span : Span) (tokens : List Token) (left right : SelectTree) → SpellsSelect span left tokens → SpellsSelect span right tokens → left ≡ right
-unfolding rank
-one_select span tokens left right l r =
-    let first : ReadsSelect span left tokens = select_reads span left tokens l in
-    let second : ReadsSelect span right tokens = select_reads span right tokens r in
-    let depth : ℕ = length tokens in
-    let same : first.0 ≡ second.0 =
-    one_found first.0 second.0 [] (read_select false (read_cond false depth) false (tokens ++ []))
-    (first.2 false depth (inl refl) (omega arith) [] (lit≤ tt)) (second.2 false depth (inl refl) (omega arith) [] (lit≤ tt)) in
-    first.1 ∙ ap (λ (parts : Parts). placed parts span) same ∙ sym second.1

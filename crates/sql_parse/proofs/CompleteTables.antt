@@ -11,9 +11,9 @@ use Rattle.sql_parse.specs.grammar.Lists.{SpellsList}
 use Rattle.sql_parse.specs.grammar.Names.{name_token, SpellsName, SpellsNames}
 use Rattle.sql_parse.specs.grammar.Tables as table
 use Rattle.sql_parse.specs.grammar.Tables.{IsEvent, SpellsType, SpellsDefault, SpellsConstraint, SpellsAction, SpellsActions, SpellsTarget, SpellsReference}
-use Rattle.sql_parse.specs.reading.Tokens.{found, and_then, is_word, is_comma, is_open, is_close, is_called, at_head, expect, read_after, read_separated}
-use Rattle.sql_parse.specs.reading.Terms.{name_from, read_name, read_names}
-use Rattle.sql_parse.specs.reading.Tables.{read_length, character_rest, is_character, is_integer, type_from, read_type, read_default, read_constraint, is_event, is_plain_action, is_set_value, action_from, read_action, read_event, read_actions, read_one_name, read_target, read_reference}
+use Rattle.sql_parse.specs.inner.readers.Tokens.{found, and_then, is_word, is_comma, is_open, is_close, is_called, at_head, expect, read_after, read_separated}
+use Rattle.sql_parse.specs.inner.readers.Terms.{name_from, read_name, read_names}
+use Rattle.sql_parse.specs.inner.readers.Tables.{read_length, character_rest, is_character, is_integer, type_from, read_type, read_default, read_constraint, is_event, is_plain_action, is_set_value, action_from, read_action, read_event, read_actions, read_one_name, read_target, read_reference}
 use Rattle.sql_parse.proofs.CompleteTokens.{kind_rank, rank}
 use Rattle.sql_parse.proofs.CompleteLists.{after_read, Looped, loop_end, loop_more, loop_whole, list_read}
 use Rattle.sql_parse.proofs.CompleteTerms.{name_read, number_is_read, value_read}

@@ -11,9 +11,9 @@ use Rattle.sql_parse.specs.grammar.Words.{number, span_of, NULL}
 use Rattle.sql_parse.specs.grammar.Names.{SpellsName}
 use Rattle.sql_parse.specs.grammar.Terms as term
 use Rattle.sql_parse.specs.grammar.Terms.{SpellsSigned, SpellsLiteral, SpellsValue, SpellsColumn, SpellsBareColumn, SpellsSum, SpellsTerm}
-use Rattle.sql_parse.specs.reading.Tokens.{found, and_then, is_word, is_dot, is_plus, is_name, at_head, expect, place_before, read_after}
-use Rattle.sql_parse.specs.reading.Terms.{name_from, read_name, number_from, read_number, signed_from, read_signed, literal_from, read_literal, read_value, Named, column_after, read_column, read_bare, term_after, read_term}
-use Rattle.sql_parse.proofs.CompleteTokens.{place_is, one_found, kind_rank, rank, no_dot, no_plus}
+use Rattle.sql_parse.specs.inner.readers.Tokens.{found, and_then, is_word, is_dot, is_plus, is_name, at_head, expect, place_before, read_after}
+use Rattle.sql_parse.specs.inner.readers.Terms.{name_from, read_name, number_from, read_number, signed_from, read_signed, literal_from, read_literal, read_value, Named, column_after, read_column, read_bare, term_after, read_term}
+use Rattle.sql_parse.proofs.CompleteTokens.{place_is, kind_rank, rank, no_dot, no_plus}
 
 pub name_read : (name : NameTree) (tokens : List Token) → SpellsName name tokens → (rest : List Token) → read_name (tokens ++ rest) ≡ found name rest
 unfolding read_name name_from
@@ -136,7 +136,3 @@ pub term_read : (tree : TermTree) (tokens : List Token) → SpellsTerm tree toke
 term_read tree tokens (term.column s) rest h = bare_term tree tokens s rest h
 term_read tree tokens (term.sum s) rest h = sum_term tree tokens s rest
 term_read tree tokens (term.value s) rest h = value_term tree tokens s rest
-
-pub one_term : (tokens : List Token) → (left right : TermTree) → SpellsTerm left tokens → SpellsTerm right tokens → left ≡ right
-unfolding rank
-one_term tokens left right l r = one_found left right [] (read_term (tokens ++ [])) (term_read left tokens l [] (lit≤ tt)) (term_read right tokens r [] (lit≤ tt))

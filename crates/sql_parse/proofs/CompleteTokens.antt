@@ -8,7 +8,7 @@ use Rattle.sql_lex.specs.declared.token.Kind.{Kind}
 use Rattle.sql_lex.specs.declared.token.Kind.TheVariants.{Name, Reserved, Sign}
 use Rattle.sql_lex.specs.declared.token.Token.{Token}
 use Rattle.sql_parse.specs.grammar.Words.{span_of, AND, AS, CHECK, CONSTRAINT, CROSS, INNER, JOIN, NOT, NULL, ON, OR, ORDER, PRIMARY, REFERENCES, UNIQUE, WHERE}
-use Rattle.sql_parse.specs.reading.Tokens.{Read, found, is_word, is_open, is_comma, is_dot, is_plus, is_name, is_called, at_head, place_before, all_read}
+use Rattle.sql_parse.specs.inner.readers.Tokens.{Read, found, is_word, is_open, is_comma, is_dot, is_plus, is_name, is_called, at_head, place_before, all_read}
 
 -- the place of what was read
 pub place_is : (own rest : List Token) → place_before (own ++ rest) rest ≡ span_of own
@@ -16,17 +16,6 @@ unfolding place_before
 place_is own rest =
     let count : length (own ++ rest) - length rest ≡ length own = omega (arith, length-append own rest) in
     rw (count, take-append_seam own rest) refl
-
--- two readings of the same tokens are one
-value_of : {A : Type 0} → A × List Token → Read A → A
-value_of other None = other.0
-value_of other (Some r) = r.0
-
-pub one_found : {A : Type 0} (left right : A) (rest : List Token) (f : Read A) → f ≡ found left rest → f ≡ found right rest → left ≡ right
-unfolding value_of
-one_found {A} left right rest f e e' =
-    let first : A × List Token = (left, rest) in
-    ap (value_of first) (sym e ∙ e')
 
 -- what reads all tokens
 pub all_found : {A : Type 0} (a : A) (tokens : List Token) (read : List Token → Read A) → read (tokens ++ []) ≡ found a [] → all_read (read tokens) ≡ Some a

@@ -7,9 +7,9 @@ use Rattle.sql_parse.specs.declared.front.ParseStop.{ParseStop}
 use Rattle.sql_parse.specs.declared.front.ParseStop.TheVariants as stops
 use Rattle.sql_parse.specs.grammar.Words.{AND, OR}
 use Rattle.sql_parse.specs.grammar.Selects.{alone_or}
-use Rattle.sql_parse.specs.reading.Tokens.{Read, found, and_then, is_word, at_head, expect, read_separated}
-use Rattle.sql_parse.specs.reading.Selects.{read_factor, read_conjunction, read_disjunction, read_cond}
-use Rattle.sql_parse.specs.reading.Gives.{Stops}
+use Rattle.sql_parse.specs.inner.readers.Tokens.{Read, found, and_then, is_word, at_head, expect, read_separated}
+use Rattle.sql_parse.specs.inner.readers.Selects.{read_factor, read_conjunction, read_disjunction, read_cond}
+use Rattle.sql_parse.specs.inner.readers.Gives.{Stops}
 use Rattle.sql_parse.proofs.Separated.{gathered, gathered_end, stops_first, stops_later}
 
 -- where the first is not read, what follows is not read

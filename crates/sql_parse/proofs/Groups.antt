@@ -8,10 +8,10 @@ use Rattle.sql_tree.specs.declared.select.CondTree.{CondTree}
 use Rattle.sql_parse.specs.declared.front.ParseStop.{ParseStop}
 use Rattle.sql_parse.specs.declared.front.ParseStop.TheVariants as stops
 use Rattle.sql_parse.specs.grammar.Selects.{entry_tree}
-use Rattle.sql_parse.specs.reading.Tokens.{Read, found, and_then, is_comma, at_head, expect, read_alone, read_after}
-use Rattle.sql_parse.specs.reading.Items.{read_entry}
-use Rattle.sql_parse.specs.reading.Selects.{is_join, read_join, read_group, read_groups, read_cond}
-use Rattle.sql_parse.specs.reading.Gives.{Stops}
+use Rattle.sql_parse.specs.inner.readers.Tokens.{Read, found, and_then, is_comma, at_head, expect, read_alone, read_after}
+use Rattle.sql_parse.specs.inner.readers.Items.{read_entry}
+use Rattle.sql_parse.specs.inner.readers.Selects.{is_join, read_join, read_group, read_groups, read_cond}
+use Rattle.sql_parse.specs.inner.readers.Gives.{Stops}
 use Rattle.sql_parse.proofs.Shorter.{Below, within, alone_below, after_below, join_below, group_below, cond_below, expect_shorter, group_shorter}
 use Rattle.sql_parse.proofs.Collected.{from_here, goes_on, stops, ends}
 use Rattle.sql_parse.proofs.Conditions.{stops_then}

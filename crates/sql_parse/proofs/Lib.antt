@@ -16,9 +16,6 @@ pub mod CompleteTerms
 pub mod CompleteTokens
 pub mod Conditions
 pub mod Ends
-pub mod GrammarBegins
-pub mod GrammarExamples
-pub mod GrammarRefused
 pub mod Groups
 pub mod LastEnds
 pub mod Places

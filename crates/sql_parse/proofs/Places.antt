@@ -8,7 +8,7 @@ use Rattle.std.proofs.Math.Seq.{drop-cons}
 use Rattle.lint_base.specs.declared.place.Fault.TheVariants.{Long}
 use Rattle.sql_lex.specs.declared.token.Token.{Token}
 use Rattle.sql_parse.specs.Refusals.{IsPlace, IsNoQuery, long}
-use Rattle.sql_parse.specs.reading.Stopped.{end_place, stopped_at}
+use Rattle.sql_parse.specs.inner.readers.Stopped.{end_place, stopped_at}
 
 -- the tokens before a token, and those from it on
 pub split_at : (tokens : List Token) (i : ℕ) (t : Token) → i < length tokens → t ≡ get_or tokens i t → tokens ≡ take i tokens ++ t ∷ drop (suc i) tokens

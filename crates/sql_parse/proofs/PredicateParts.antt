@@ -11,11 +11,11 @@ use Rattle.sql_tree.specs.declared.select.SelectTree.{SelectTree}
 use Rattle.sql_tree.specs.declared.select.CondTree.{CondTree}
 use Rattle.sql_parse.specs.declared.front.ParseStop.{ParseStop}
 use Rattle.sql_parse.specs.grammar.Words.{BETWEEN, IS, SELECT}
-use Rattle.sql_parse.specs.reading.Tokens.{Read, found, and_then, is_word, is_open, at_head, expect}
-use Rattle.sql_parse.specs.reading.Terms.{read_term}
-use Rattle.sql_parse.specs.reading.Predicates.{read_not, comparison_rest, null_rest, between_rest, values_rest, list_or_select, in_rest, negatable, predicate_from, predicate_rest, read_predicate}
-use Rattle.sql_parse.specs.reading.Gives.{Stops, Gives}
-use Rattle.sql_parse.specs.reading.Operators.{operator_of, first_operator, IsOperator, BeginsOtherwise}
+use Rattle.sql_parse.specs.inner.readers.Tokens.{Read, found, and_then, is_word, is_open, at_head, expect}
+use Rattle.sql_parse.specs.inner.readers.Terms.{read_term}
+use Rattle.sql_parse.specs.inner.readers.Predicates.{read_not, comparison_rest, null_rest, between_rest, values_rest, list_or_select, in_rest, negatable, predicate_from, predicate_rest, read_predicate}
+use Rattle.sql_parse.specs.inner.readers.Gives.{Stops, Gives}
+use Rattle.sql_parse.specs.inner.readers.Operators.{operator_of, first_operator, IsOperator, BeginsOtherwise}
 use Rattle.sql_parse.proofs.Conditions.{stops_then}
 
 found_rest : {A : Type 0} (x y : A × List Token) → ◌≡◌ {A = Read A} (Some x) (Some y) → x.1 ≡ y.1

@@ -7,10 +7,10 @@ use Rattle.sql_lex.specs.declared.token.Token.{Token}
 use Rattle.sql_tree.specs.declared.select.QueryTree.{QueryTree}
 use Rattle.sql_parse.specs.Refusals.{IsQuery, IsNoQuery, too_deep, deep, syntax}
 use Rattle.sql_parse.specs.grammar.Queries.{SpellsQuery}
-use Rattle.sql_parse.specs.reading.Queries.{query_of}
+use Rattle.sql_parse.specs.inner.readers.Queries.{query_of}
 use Rattle.sql_parse.proofs.Sound.{query_sound}
 use Rattle.sql_parse.proofs.Complete.{query_complete}
-use Rattle.sql_parse.specs.reading.Stopped.{stopped_at}
+use Rattle.sql_parse.specs.inner.readers.Stopped.{stopped_at}
 use Rattle.sql_parse.proofs.Places.{stopped_place}
 
 module _ (tokens : List Token) (few : length tokens ≤ 4096) where

@@ -7,8 +7,8 @@ use Rattle.sql_lex.specs.declared.token.Token.{Token}
 use Rattle.sql_tree.specs.declared.schema.CreateTable.{CreateTable}
 use Rattle.sql_parse.specs.Refusals.{IsSchema, IsNoSchema, too_deep, deep, syntax}
 use Rattle.sql_parse.specs.grammar.Schemas.{SpellsSchema}
-use Rattle.sql_parse.specs.reading.Schemas.{schema_of}
-use Rattle.sql_parse.specs.reading.Stopped.{stopped_at}
+use Rattle.sql_parse.specs.inner.readers.Schemas.{schema_of}
+use Rattle.sql_parse.specs.inner.readers.Stopped.{stopped_at}
 use Rattle.sql_parse.proofs.Places.{stopped_place}
 use Rattle.sql_parse.proofs.Sound.{schema_sound}
 use Rattle.sql_parse.proofs.Complete.{schema_complete}

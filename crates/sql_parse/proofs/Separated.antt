@@ -7,8 +7,8 @@ use Rattle.sql_lex.specs.declared.token.Kind.{Kind}
 use Rattle.sql_lex.specs.declared.token.Token.{Token}
 use Rattle.sql_parse.specs.declared.front.ParseStop.{ParseStop}
 use Rattle.sql_parse.specs.declared.front.ParseStop.TheVariants as stops
-use Rattle.sql_parse.specs.reading.Tokens.{Read, found, and_then, at_head, expect, read_while, read_parts, read_alone, read_after, read_separated}
-use Rattle.sql_parse.specs.reading.Gives.{Stops, Gives}
+use Rattle.sql_parse.specs.inner.readers.Tokens.{Read, found, and_then, at_head, expect, read_while, read_parts, read_alone, read_after, read_separated}
+use Rattle.sql_parse.specs.inner.readers.Gives.{Stops, Gives}
 use Rattle.sql_parse.proofs.Shorter.{Shorter, expect_shorter}
 
 -- what was read before, and what is still read

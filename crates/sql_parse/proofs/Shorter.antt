@@ -11,15 +11,15 @@ use Rattle.sql_tree.specs.declared.term.TermTree.{TermTree}
 use Rattle.sql_tree.specs.declared.select.SelectTree.{SelectTree}
 use Rattle.sql_tree.specs.declared.select.CondTree.{CondTree}
 use Rattle.sql_tree.specs.declared.select.OrderTree.{OrderTree}
-pub use Rattle.sql_parse.specs.reading.Separated.{Shorter}
-use Rattle.sql_parse.specs.reading.Tokens.{Read, found, and_then, expect, read_while, read_parts, read_alone, read_after, read_separated}
-use Rattle.sql_parse.specs.reading.Terms.{Named, read_name, name_from, read_names, read_alias, number_from, read_number, signed_from, read_signed, literal_from, read_literal, read_value, column_after, read_column, read_bare, term_after, read_term}
-use Rattle.sql_parse.specs.reading.Predicates.{read_not, comparison_rest, null_rest, between_rest, values_rest, list_or_select, in_rest, negatable, predicate_from, predicate_rest, read_predicate}
-use Rattle.sql_parse.specs.reading.Items.{read_quantifier, item_after, dotted_item, named_item, read_item, read_items, read_entry}
-use Rattle.sql_parse.specs.reading.Selects.{without_inner, cross_joined, inner_joined, read_join, read_group, read_groups, read_where, read_select, read_subquery, read_parenthesized, read_exists, read_primary, read_factor, read_conjunction, read_disjunction, read_cond}
-use Rattle.sql_parse.specs.reading.Queries.{directed, read_key, read_order, read_query}
-use Rattle.sql_parse.specs.reading.Tables.{read_length, character_rest, type_from, read_type, read_default, read_constraint, action_from, read_action, read_event, read_actions, read_one_name, read_target, read_reference, read_check, word_rule, column_rule_from, read_column_rule, read_named_rule, read_rules, read_key_names, table_rule_from, read_table_rule, read_declared_column, read_element, read_elements, read_create}
-use Rattle.sql_parse.specs.reading.Schemas.{read_statement, read_next_statement, read_schema}
+pub use Rattle.sql_parse.specs.inner.readers.Separated.{Shorter}
+use Rattle.sql_parse.specs.inner.readers.Tokens.{Read, found, and_then, expect, read_while, read_parts, read_alone, read_after, read_separated}
+use Rattle.sql_parse.specs.inner.readers.Terms.{Named, read_name, name_from, read_names, read_alias, number_from, read_number, signed_from, read_signed, literal_from, read_literal, read_value, column_after, read_column, read_bare, term_after, read_term}
+use Rattle.sql_parse.specs.inner.readers.Predicates.{read_not, comparison_rest, null_rest, between_rest, values_rest, list_or_select, in_rest, negatable, predicate_from, predicate_rest, read_predicate}
+use Rattle.sql_parse.specs.inner.readers.Items.{read_quantifier, item_after, dotted_item, named_item, read_item, read_items, read_entry}
+use Rattle.sql_parse.specs.inner.readers.Selects.{without_inner, cross_joined, inner_joined, read_join, read_group, read_groups, read_where, read_select, read_subquery, read_parenthesized, read_exists, read_primary, read_factor, read_conjunction, read_disjunction, read_cond}
+use Rattle.sql_parse.specs.inner.readers.Queries.{directed, read_key, read_order, read_query}
+use Rattle.sql_parse.specs.inner.readers.Tables.{read_length, character_rest, type_from, read_type, read_default, read_constraint, action_from, read_action, read_event, read_actions, read_one_name, read_target, read_reference, read_check, word_rule, column_rule_from, read_column_rule, read_named_rule, read_rules, read_key_names, table_rule_from, read_table_rule, read_declared_column, read_element, read_elements, read_create}
+use Rattle.sql_parse.specs.inner.readers.Schemas.{read_statement, read_next_statement, read_schema}
 
 -- what was read, if anything, is so
 abbrev pub Meets : {A : Type 0} → (A → List Token → Type 0) → Read A → Type 0
@@ -362,14 +362,6 @@ pub key_below : (tokens : List Token) → Below (length tokens) (read_key tokens
 unfolding read_key
 key_below tokens = search (shortening, bare_below, number_below, directed_within) depth 20 fits 3000
 
-pub order_within : (tokens : List Token) → Within (length tokens) (read_order tokens)
-unfolding read_order
-order_within tokens = search (shortening, key_below) depth 20 fits 3000
-
-pub query_below : (tokens : List Token) → Below (length tokens) (read_query tokens)
-unfolding read_query
-query_below tokens = search (shortening, select_below, cond_below, order_within) depth 20 fits 3000
-
 -- declarations of tables
 pub length_below : (tokens : List Token) → Below (length tokens) (read_length tokens)
 unfolding read_length
@@ -498,10 +490,6 @@ pub next_statement_below : (depth : ℕ) (count : ℕ) (tokens : List Token) →
 unfolding read_next_statement
 next_statement_below depth count tokens = search (shortening, statement_within) depth 20 fits 3000
 
-pub schema_within : (depth : ℕ) (tokens : List Token) → Within (length tokens) (read_schema depth tokens)
-unfolding read_schema
-schema_within depth tokens = search (shortening, statement_within, next_statement_below) depth 20 fits 3000
-
 -- two ways to go on that agree wherever what is read leaves fewer tokens
 then_same : {A B : Type 0} {n : ℕ} {f : Read A} (k l : A → List Token → Read B) → Below n f → ((a : A) (rest : List Token) → suc (length rest) ≤ n → k a rest ≡ l a rest) → and_then f k ≡ and_then f l
 unfolding and_then
@@ -532,30 +520,6 @@ module _ {A : Type 0} (begins : List Token → Bool) (read : ℕ → List Token 
       rw b
       (then_same _ _ (shorter count tokens) (λ part left l. ap (λ (f : Read (List A)). and_then f (λ parts after. found (part ++ parts) after)) (clock_same (length tokens) (suc (length left)) (count + length part) left (omega arith) (omega arith))))
 
--- parts that are one each: the number of those before does not matter
-module _ {A : Type 0} (begins : List Token → Bool) (read : List Token → Read A) (shorter : (tokens : List Token) → Below (length tokens) (read tokens)) where
-  any_count : (clock count other : ℕ) (tokens : List Token) →
-      read_while begins (read_alone read) clock count tokens ≡ read_while begins (read_alone read) clock other tokens
-  unfolding read_while read_alone
-  any_count zero count other tokens = refl
-  any_count (suc clock) count other tokens =
-      if_same (begins tokens) _ _ _
-      (then_same _ _ (alone_below read count tokens (shorter tokens)) (λ part left l. ap (λ (f : Read (List A)). and_then f (λ parts after. found (part ++ parts) after)) (any_count clock (count + length part) (other + length part) left)))
-
-  joined_part : (f : Read A) (count : ℕ) →
-      and_then (and_then f (λ part left. found (part ∷ []) left)) (λ part left. and_then (read_parts begins (read_alone read) (count + length part) left) (λ parts after. found (part ++ parts) after))
-      ≡ and_then f (λ part left. and_then (read_parts begins (read_alone read) count left) (λ parts after. found (part ∷ parts) after))
-  unfolding and_then read_parts
-  joined_part None count = refl
-  joined_part (Some r) count = ap (λ (f : Read (List A)). and_then f (λ parts after. found (r.0 ∷ parts) after)) (any_count (suc (length r.1)) (count + 1) count r.1)
-
-  pub alone_step : (count : ℕ) (tokens : List Token) → begins tokens ≡ true →
-      read_parts begins (read_alone read) count tokens
-      ≡ and_then (read tokens) (λ part left. and_then (read_parts begins (read_alone read) count left) (λ parts after. found (part ∷ parts) after))
-  unfolding read_alone
-  alone_step count tokens b =
-      parts_step begins (read_alone read) (λ count tokens. alone_below read count tokens (shorter tokens)) count tokens b ∙ joined_part (read tokens) count
-
 pub parts_end : {A : Type 0} (begins : List Token → Bool) (read : ℕ → List Token → Read (List A)) (count : ℕ) (tokens : List Token) → begins tokens ≡ false →
     read_parts begins read count tokens ≡ found [] tokens
 unfolding read_parts read_while
@@ -568,59 +532,17 @@ fewer n f a rest h e = (rw e at h).left
 pub no_more : {A : Type 0} (n : ℕ) (f : Read A) (a : A) (rest : List Token) → Within n f → f ≡ found a rest → length rest ≤ n
 no_more n f a rest h e = (rw e at h).left
 
-abbrev pub NoLonger : {A : Type 0} → (List Token → Read A) → Type 0
-NoLonger {A} read = (tokens : List Token) (a : A) (rest : List Token) → read tokens ≡ found a rest → length rest ≤ length tokens
-
 pub expect_shorter : (test : Kind → Bool) → Shorter (expect test)
 expect_shorter test tokens a rest e = fewer (length tokens) (expect test tokens) a rest (expect_below test tokens) e
 
 pub name_shorter : Shorter read_name
 name_shorter tokens a rest e = fewer (length tokens) (read_name tokens) a rest (name_below tokens) e
 
-pub names_shorter : Shorter read_names
-names_shorter tokens a rest e = fewer (length tokens) (read_names tokens) a rest (names_below tokens) e
-
-pub alias_shorter : NoLonger read_alias
-alias_shorter tokens a rest e = no_more (length tokens) (read_alias tokens) a rest (alias_within tokens) e
-
-pub number_shorter : Shorter read_number
-number_shorter tokens a rest e = fewer (length tokens) (read_number tokens) a rest (number_below tokens) e
-
-pub signed_shorter : Shorter read_signed
-signed_shorter tokens a rest e = fewer (length tokens) (read_signed tokens) a rest (signed_below tokens) e
-
-pub literal_shorter : Shorter read_literal
-literal_shorter tokens a rest e = fewer (length tokens) (read_literal tokens) a rest (literal_below tokens) e
-
 pub value_shorter : Shorter read_value
 value_shorter tokens a rest e = fewer (length tokens) (read_value tokens) a rest (value_below tokens) e
 
-pub column_shorter : Shorter read_column
-column_shorter tokens a rest e = fewer (length tokens) (read_column tokens) a rest (column_below tokens) e
-
-pub bare_shorter : Shorter read_bare
-bare_shorter tokens a rest e = fewer (length tokens) (read_bare tokens) a rest (bare_below tokens) e
-
-pub term_shorter : Shorter read_term
-term_shorter tokens a rest e = fewer (length tokens) (read_term tokens) a rest (term_below tokens) e
-
-pub not_shorter : NoLonger read_not
-not_shorter tokens a rest e = no_more (length tokens) (read_not tokens) a rest (not_within tokens) e
-
-pub quantifier_shorter : (scalar : Bool) → NoLonger (read_quantifier scalar)
-quantifier_shorter scalar tokens a rest e = no_more (length tokens) (read_quantifier scalar tokens) a rest (quantifier_within scalar tokens) e
-
 pub item_shorter : Shorter read_item
 item_shorter tokens a rest e = fewer (length tokens) (read_item tokens) a rest (item_below tokens) e
-
-pub items_shorter : Shorter read_items
-items_shorter tokens a rest e = fewer (length tokens) (read_items tokens) a rest (items_below tokens) e
-
-pub entry_shorter : Shorter read_entry
-entry_shorter tokens a rest e = fewer (length tokens) (read_entry tokens) a rest (entry_below tokens) e
-
-pub cond_shorter : (flat : Bool) (depth : ℕ) → Shorter (read_cond flat depth)
-cond_shorter flat depth tokens a rest e = fewer (length tokens) (read_cond flat depth tokens) a rest (cond_below flat depth tokens) e
 
 pub join_shorter : (flat : Bool) (depth : ℕ) (first : ℕ) → Shorter (read_join flat (read_cond flat depth) first)
 join_shorter flat depth first tokens a rest e = fewer (length tokens) (read_join flat (read_cond flat depth) first tokens) a rest (join_below flat (read_cond flat depth) (cond_below flat depth) first tokens) e
@@ -628,113 +550,23 @@ join_shorter flat depth first tokens a rest e = fewer (length tokens) (read_join
 pub group_shorter : (flat : Bool) (depth : ℕ) (first : ℕ) → Shorter (read_group flat (read_cond flat depth) first)
 group_shorter flat depth first tokens a rest e = fewer (length tokens) (read_group flat (read_cond flat depth) first tokens) a rest (group_below flat (read_cond flat depth) (cond_below flat depth) first tokens) e
 
-pub groups_shorter : (flat : Bool) (depth : ℕ) → Shorter (read_groups flat (read_cond flat depth))
-groups_shorter flat depth tokens a rest e = fewer (length tokens) (read_groups flat (read_cond flat depth) tokens) a rest (groups_below flat (read_cond flat depth) (cond_below flat depth) tokens) e
-
-pub where_shorter : (flat : Bool) (depth : ℕ) → NoLonger (read_where flat (read_cond flat depth))
-where_shorter flat depth tokens a rest e = no_more (length tokens) (read_where flat (read_cond flat depth) tokens) a rest (where_within flat (read_cond flat depth) (cond_below flat depth) tokens) e
-
-pub select_shorter : (flat : Bool) (depth : ℕ) (scalar : Bool) → Shorter (read_select flat (read_cond flat depth) scalar)
-select_shorter flat depth scalar tokens a rest e = fewer (length tokens) (read_select flat (read_cond flat depth) scalar tokens) a rest (select_below flat (read_cond flat depth) (cond_below flat depth) scalar tokens) e
-
-pub subquery_shorter : (flat : Bool) (depth : ℕ) (scalar : Bool) → Shorter (read_subquery flat (read_cond flat depth) scalar)
-subquery_shorter flat depth scalar tokens a rest e = fewer (length tokens) (read_subquery flat (read_cond flat depth) scalar tokens) a rest (subquery_below flat (read_cond flat depth) (cond_below flat depth) scalar tokens) e
-
-pub parenthesized_shorter : (flat : Bool) (depth : ℕ) → Shorter (read_parenthesized flat (read_cond flat depth))
-parenthesized_shorter flat depth tokens a rest e = fewer (length tokens) (read_parenthesized flat (read_cond flat depth) tokens) a rest (parenthesized_below flat (read_cond flat depth) (cond_below flat depth) tokens) e
-
-pub exists_shorter : (flat : Bool) (depth : ℕ) → Shorter (read_exists flat (read_cond flat depth))
-exists_shorter flat depth tokens a rest e = fewer (length tokens) (read_exists flat (read_cond flat depth) tokens) a rest (exists_below flat (read_cond flat depth) (cond_below flat depth) tokens) e
-
-pub predicate_shorter : (flat : Bool) (depth : ℕ) → Shorter (read_predicate (read_subquery flat (read_cond flat depth)))
-predicate_shorter flat depth tokens a rest e = fewer (length tokens) (read_predicate (read_subquery flat (read_cond flat depth)) tokens) a rest (predicate_below (read_subquery flat (read_cond flat depth)) (subquery_below flat (read_cond flat depth) (cond_below flat depth)) tokens) e
-
-pub primary_shorter : (flat : Bool) (depth : ℕ) → Shorter (read_primary flat (read_cond flat depth))
-primary_shorter flat depth tokens a rest e = fewer (length tokens) (read_primary flat (read_cond flat depth) tokens) a rest (primary_below flat (read_cond flat depth) (cond_below flat depth) tokens) e
-
 pub factor_shorter : (flat : Bool) (depth : ℕ) → Shorter (read_factor flat (read_cond flat depth))
 factor_shorter flat depth tokens a rest e = fewer (length tokens) (read_factor flat (read_cond flat depth) tokens) a rest (factor_below flat (read_cond flat depth) (cond_below flat depth) tokens) e
 
 pub conjunction_shorter : (flat : Bool) (depth : ℕ) → Shorter (read_conjunction flat (read_cond flat depth))
 conjunction_shorter flat depth tokens a rest e = fewer (length tokens) (read_conjunction flat (read_cond flat depth) tokens) a rest (conjunction_below flat (read_cond flat depth) (cond_below flat depth) tokens) e
 
-pub disjunction_shorter : (flat : Bool) (depth : ℕ) → Shorter (read_disjunction flat (read_cond flat depth))
-disjunction_shorter flat depth tokens a rest e = fewer (length tokens) (read_disjunction flat (read_cond flat depth) tokens) a rest (disjunction_below flat (read_cond flat depth) (cond_below flat depth) tokens) e
-
 pub key_shorter : Shorter read_key
 key_shorter tokens a rest e = fewer (length tokens) (read_key tokens) a rest (key_below tokens) e
-
-pub order_shorter : NoLonger read_order
-order_shorter tokens a rest e = no_more (length tokens) (read_order tokens) a rest (order_within tokens) e
-
-pub query_shorter : Shorter read_query
-query_shorter tokens a rest e = fewer (length tokens) (read_query tokens) a rest (query_below tokens) e
-
-pub length_shorter : Shorter read_length
-length_shorter tokens a rest e = fewer (length tokens) (read_length tokens) a rest (length_below tokens) e
-
-pub type_shorter : Shorter read_type
-type_shorter tokens a rest e = fewer (length tokens) (read_type tokens) a rest (type_below tokens) e
-
-pub default_shorter : NoLonger read_default
-default_shorter tokens a rest e = no_more (length tokens) (read_default tokens) a rest (default_within tokens) e
-
-pub constraint_shorter : NoLonger read_constraint
-constraint_shorter tokens a rest e = no_more (length tokens) (read_constraint tokens) a rest (constraint_within tokens) e
-
-pub action_shorter : Shorter read_action
-action_shorter tokens a rest e = fewer (length tokens) (read_action tokens) a rest (action_below tokens) e
 
 pub event_shorter : (count : ℕ) → Shorter (read_event count)
 event_shorter count tokens a rest e = fewer (length tokens) (read_event count tokens) a rest (event_below count tokens) e
 
-pub actions_shorter : NoLonger read_actions
-actions_shorter tokens a rest e = no_more (length tokens) (read_actions tokens) a rest (actions_within tokens) e
-
-pub one_name_shorter : Shorter read_one_name
-one_name_shorter tokens a rest e = fewer (length tokens) (read_one_name tokens) a rest (one_name_below tokens) e
-
-pub target_shorter : (one : Bool) → NoLonger (read_target one)
-target_shorter one tokens a rest e = no_more (length tokens) (read_target one tokens) a rest (target_within one tokens) e
-
-pub reference_shorter : (one : Bool) → Shorter (read_reference one)
-reference_shorter one tokens a rest e = fewer (length tokens) (read_reference one tokens) a rest (reference_below one tokens) e
-
-pub check_shorter : (depth : ℕ) → Shorter (read_check depth)
-check_shorter depth tokens a rest e = fewer (length tokens) (read_check depth tokens) a rest (check_below depth tokens) e
-
-pub column_rule_shorter : (depth : ℕ) (column : NameTree) → Shorter (read_column_rule depth column)
-column_rule_shorter depth column tokens a rest e = fewer (length tokens) (read_column_rule depth column tokens) a rest (column_rule_below depth column tokens) e
-
 pub named_rule_shorter : (depth : ℕ) (column : NameTree) (count : ℕ) → Shorter (read_named_rule depth column count)
 named_rule_shorter depth column count tokens a rest e = fewer (length tokens) (read_named_rule depth column count tokens) a rest (named_rule_below depth column count tokens) e
-
-pub rules_shorter : (depth : ℕ) (column : NameTree) → NoLonger (read_rules depth column)
-rules_shorter depth column tokens a rest e = no_more (length tokens) (read_rules depth column tokens) a rest (rules_within depth column tokens) e
-
-pub key_names_shorter : (depth : ℕ) → Shorter (read_key_names depth)
-key_names_shorter depth tokens a rest e = fewer (length tokens) (read_key_names depth tokens) a rest (key_names_below depth tokens) e
-
-pub table_rule_shorter : (depth : ℕ) → Shorter (read_table_rule depth)
-table_rule_shorter depth tokens a rest e = fewer (length tokens) (read_table_rule depth tokens) a rest (table_rule_below depth tokens) e
-
-pub declared_column_shorter : (depth : ℕ) → Shorter (read_declared_column depth)
-declared_column_shorter depth tokens a rest e = fewer (length tokens) (read_declared_column depth tokens) a rest (declared_column_below depth tokens) e
 
 pub element_shorter : (depth : ℕ) → Shorter (read_element depth)
 element_shorter depth tokens a rest e = fewer (length tokens) (read_element depth tokens) a rest (element_below depth tokens) e
 
-pub elements_shorter : (depth : ℕ) → Shorter (read_elements depth)
-elements_shorter depth tokens a rest e = fewer (length tokens) (read_elements depth tokens) a rest (elements_below depth tokens) e
-
-pub create_shorter : (depth : ℕ) → Shorter (read_create depth)
-create_shorter depth tokens a rest e = fewer (length tokens) (read_create depth tokens) a rest (create_below depth tokens) e
-
-pub statement_shorter : (depth : ℕ) → NoLonger (read_statement depth)
-statement_shorter depth tokens a rest e = no_more (length tokens) (read_statement depth tokens) a rest (statement_within depth tokens) e
-
 pub next_statement_shorter : (depth : ℕ) (count : ℕ) → Shorter (read_next_statement depth count)
 next_statement_shorter depth count tokens a rest e = fewer (length tokens) (read_next_statement depth count tokens) a rest (next_statement_below depth count tokens) e
-
-pub schema_shorter : (depth : ℕ) → NoLonger (read_schema depth)
-schema_shorter depth tokens a rest e = no_more (length tokens) (read_schema depth tokens) a rest (schema_within depth tokens) e

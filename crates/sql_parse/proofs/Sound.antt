@@ -9,9 +9,9 @@ use Rattle.sql_parse.specs.grammar.Words.{sign, CREATE}
 use Rattle.sql_parse.specs.grammar.Queries.{SpellsQuery}
 use Rattle.sql_parse.specs.grammar.Schemas as schema
 use Rattle.sql_parse.specs.grammar.Schemas.{SpellsStatement, SpellsSchema}
-use Rattle.sql_parse.specs.reading.Tokens.{is_word, is_semicolon, at_head, read_after}
-use Rattle.sql_parse.specs.reading.Queries.{read_query, query_of}
-use Rattle.sql_parse.specs.reading.Schemas.{read_statement, read_next_statement, read_schema, schema_of}
+use Rattle.sql_parse.specs.inner.readers.Tokens.{is_word, is_semicolon, at_head, read_after}
+use Rattle.sql_parse.specs.inner.readers.Queries.{read_query, query_of}
+use Rattle.sql_parse.specs.inner.readers.Schemas.{read_statement, read_next_statement, read_schema, schema_of}
 use Rattle.sql_parse.proofs.SoundTokens.{Reads, sound_weaker, sound_found, sound_then, sound_last, sound_if, sound_semicolon, parts_sound, all_sound}
 use Rattle.sql_parse.proofs.SoundQueries.{query_reads}
 use Rattle.sql_parse.proofs.SoundTables.{create_sound}

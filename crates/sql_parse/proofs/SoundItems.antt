@@ -11,8 +11,8 @@ use Rattle.sql_parse.specs.grammar.Names.{SpellsName}
 use Rattle.sql_parse.specs.grammar.Terms.{SpellsBareColumn, SpellsLiteral}
 use Rattle.sql_parse.specs.grammar.Items as item
 use Rattle.sql_parse.specs.grammar.Items.{SpellsQuantifier, SpellsItem, SpellsItems, SpellsEntry}
-use Rattle.sql_parse.specs.reading.Tokens.{is_word, is_dot, is_star, is_name, at_head, place_before}
-use Rattle.sql_parse.specs.reading.Items.{Entry, read_quantifier, item_after, dotted_item, named_item, read_item, read_items, read_entry}
+use Rattle.sql_parse.specs.inner.readers.Tokens.{is_word, is_dot, is_star, is_name, at_head, place_before}
+use Rattle.sql_parse.specs.inner.readers.Items.{Entry, read_quantifier, item_after, dotted_item, named_item, read_item, read_items, read_entry}
 use Rattle.sql_parse.proofs.SoundTokens.{Sound, Reads, sound_weaker, sound_none, sound_found, sound_then, sound_then_from, sound_last, place_is, sound_if, sound_word, sound_dot, sound_star}
 use Rattle.sql_parse.proofs.SoundTerms.{list_sound, name_sound, alias_sound, literal_sound}
 

@@ -17,9 +17,9 @@ use Rattle.sql_parse.specs.grammar.Predicates.{SpellsNot}
 use Rattle.sql_parse.specs.grammar.Selects as select
 use Rattle.sql_parse.specs.grammar.Selects.{Level, Primary, SpellsCond, SpellsSubquery}
 use Rattle.sql_parse.specs.grammar.Tables.{is_flat}
-use Rattle.sql_parse.specs.reading.Tokens.{Read, and_then, is_word, is_open, at_head, place_before}
-use Rattle.sql_parse.specs.reading.Terms.{read_value}
-use Rattle.sql_parse.specs.reading.Predicates.{read_not, comparison_rest, null_rest, between_rest, values_rest, list_or_select, in_rest, negatable, predicate_from, predicate_rest, read_predicate}
+use Rattle.sql_parse.specs.inner.readers.Tokens.{Read, and_then, is_word, is_open, at_head, place_before}
+use Rattle.sql_parse.specs.inner.readers.Terms.{read_value}
+use Rattle.sql_parse.specs.inner.readers.Predicates.{read_not, comparison_rest, null_rest, between_rest, values_rest, list_or_select, in_rest, negatable, predicate_from, predicate_rest, read_predicate}
 use Rattle.sql_parse.proofs.SoundTokens.{Sound, Reads, sound_none, sound_found, sound_first, sound_then, sound_last, sound_placed, sound_if, sound_again, word_is, open_is, sound_word, sound_close}
 use Rattle.sql_parse.proofs.SoundTerms.{list_sound, value_sound, term_sound}
 use Rattle.sql_parse.proofs.SoundFlat.{flat_compare, flat_is_null, flat_between, flat_in_list}

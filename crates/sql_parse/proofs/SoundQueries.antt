@@ -8,9 +8,9 @@ use Rattle.sql_tree.specs.declared.select.OrderTree.TheVariants.{Place, Column}
 use Rattle.sql_parse.specs.grammar.Words.{span_of, BY, ORDER}
 use Rattle.sql_parse.specs.grammar.Queries as query
 use Rattle.sql_parse.specs.grammar.Queries.{SpellsDirection, SpellsKey, SpellsOrder, SpellsQuery}
-use Rattle.sql_parse.specs.reading.Tokens.{is_word, is_name, is_called, at_head, read_after}
-use Rattle.sql_parse.specs.reading.Selects.{read_cond}
-use Rattle.sql_parse.specs.reading.Queries.{is_direction, directed, read_key, read_order, read_query}
+use Rattle.sql_parse.specs.inner.readers.Tokens.{is_word, is_name, is_called, at_head, read_after}
+use Rattle.sql_parse.specs.inner.readers.Selects.{read_cond}
+use Rattle.sql_parse.specs.inner.readers.Queries.{is_direction, directed, read_key, read_order, read_query}
 use Rattle.sql_parse.proofs.SoundTokens.{Reads, sound_weaker, sound_found, sound_then, sound_last, sound_if, sound_token, sound_word, called_is, either}
 use Rattle.sql_parse.proofs.SoundTerms.{list_sound, number_sound, bare_sound}
 use Rattle.sql_parse.proofs.SoundSelects.{select_sound, cond_sound}

@@ -9,8 +9,8 @@ use Rattle.sql_parse.specs.grammar.Words.{word, called, NULL, ON, REFERENCES}
 use Rattle.sql_parse.specs.grammar.Names.{SpellsNames}
 use Rattle.sql_parse.specs.grammar.Tables as table
 use Rattle.sql_parse.specs.grammar.Tables.{SpellsAction, SpellsActions, SpellsTarget, SpellsReference}
-use Rattle.sql_parse.specs.reading.Tokens.{found, is_word, is_open, is_called, at_head, read_after}
-use Rattle.sql_parse.specs.reading.Tables.{is_event, is_plain_action, is_set_value, action_from, read_action, read_event, read_actions, read_one_name, read_target, read_reference}
+use Rattle.sql_parse.specs.inner.readers.Tokens.{found, is_word, is_open, is_called, at_head, read_after}
+use Rattle.sql_parse.specs.inner.readers.Tables.{is_event, is_plain_action, is_set_value, action_from, read_action, read_event, read_actions, read_one_name, read_target, read_reference}
 use Rattle.sql_parse.proofs.SoundTokens.{Sound, Reads, sound_weaker, sound_none, sound_found, sound_first, sound_then, sound_last, sound_regroup, sound_if, sound_token, either, word_is, called_is, sound_word, sound_called, sound_open, sound_close, parts_sound}
 use Rattle.sql_parse.proofs.SoundTerms.{name_sound, names_sound}
 use Rattle.sql_parse.proofs.SoundTypes.{one_of}

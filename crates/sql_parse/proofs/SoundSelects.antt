@@ -11,8 +11,8 @@ use Rattle.sql_tree.specs.declared.select.CondTree.TheVariants.{And, Or, Exists}
 use Rattle.sql_parse.specs.grammar.Words.{word, sign, span_of, MayBe, AND, CROSS, EXISTS, FROM, INNER, JOIN, NOT, ON, OR, SELECT, WHERE}
 use Rattle.sql_parse.specs.grammar.Selects as select
 use Rattle.sql_parse.specs.grammar.Selects.{Level, Disjunction, Conjunction, Factor, Primary, SpellsJoined, SpellsSelect, SpellsWhere, SpellsGroups, SpellsGroup, SpellsJoins}
-use Rattle.sql_parse.specs.reading.Tokens.{Read, is_word, is_comma, is_open, at_head, read_alone, read_after, read_separated}
-use Rattle.sql_parse.specs.reading.Selects.{Parts, placed, is_join, without_inner, cross_joined, inner_joined, read_join, read_group, read_groups, read_where, read_select, read_subquery, read_parenthesized, read_exists, read_primary, read_factor, read_conjunction, read_disjunction, read_cond}
+use Rattle.sql_parse.specs.inner.readers.Tokens.{Read, is_word, is_comma, is_open, at_head, read_alone, read_after, read_separated}
+use Rattle.sql_parse.specs.inner.readers.Selects.{Parts, placed, is_join, without_inner, cross_joined, inner_joined, read_join, read_group, read_groups, read_where, read_select, read_subquery, read_parenthesized, read_exists, read_primary, read_factor, read_conjunction, read_disjunction, read_cond}
 use Rattle.sql_parse.proofs.SoundTokens.{Reads, sound_weaker, sound_none, sound_found, sound_then, sound_last, sound_regroup, sound_placed, sound_if, word_is, sound_word, sound_open, sound_close, sound_comma, parts_sound, separated_sound}
 use Rattle.sql_parse.proofs.SoundItems.{quantifier_sound, items_sound, entry_sound}
 use Rattle.sql_parse.proofs.SoundFlat.{AllFlat, flat_not, flat_and, flat_or, more_flat, flat_alone}

@@ -12,8 +12,8 @@ use Rattle.sql_parse.specs.grammar.Lists.{SpellsList}
 use Rattle.sql_parse.specs.grammar.Names.{SpellsNames}
 use Rattle.sql_parse.specs.grammar.Tables as table
 use Rattle.sql_parse.specs.grammar.Tables.{SpellsCheck, SpellsColumnRule, SpellsTableRule, SpellsColumnRules, SpellsElement, SpellsCreate}
-use Rattle.sql_parse.specs.reading.Tokens.{found, and_then, is_word, is_name, at_head, read_after}
-use Rattle.sql_parse.specs.reading.Tables.{foreign_tree, begins_rule, read_reference, read_check, word_rule, column_rule_from, read_column_rule, read_named_rule, read_rules, read_key_names, table_rule_from, read_table_rule, read_declared_column, read_element, read_elements, read_create}
+use Rattle.sql_parse.specs.inner.readers.Tokens.{found, and_then, is_word, is_name, at_head, read_after}
+use Rattle.sql_parse.specs.inner.readers.Tables.{foreign_tree, begins_rule, read_reference, read_check, word_rule, column_rule_from, read_column_rule, read_named_rule, read_rules, read_key_names, table_rule_from, read_table_rule, read_declared_column, read_element, read_elements, read_create}
 use Rattle.sql_parse.proofs.SoundTokens.{Sound, Reads, sound_weaker, sound_none, sound_found, sound_first, sound_then, sound_last, sound_regroup, sound_from, sound_if, word_is, sound_word, sound_called, sound_open, sound_close, parts_sound}
 use Rattle.sql_parse.proofs.SoundTerms.{list_sound, name_sound, names_sound}
 use Rattle.sql_parse.proofs.SoundSelects.{cond_sound}

@@ -12,8 +12,8 @@ use Rattle.sql_parse.specs.grammar.Lists.{SpellsMore, SpellsList}
 use Rattle.sql_parse.specs.grammar.Names.{SpellsName, SpellsNames, SpellsAlias}
 use Rattle.sql_parse.specs.grammar.Terms as term
 use Rattle.sql_parse.specs.grammar.Terms.{SpellsSigned, SpellsLiteral, SpellsValue, SpellsColumn, SpellsBareColumn, SpellsTerm}
-use Rattle.sql_parse.specs.reading.Tokens.{Read, is_word, is_comma, is_dot, is_plus, is_name, at_head, read_after, read_separated, place_before}
-use Rattle.sql_parse.specs.reading.Terms.{Named, read_name, name_from, read_names, read_alias, number_from, read_number, signed_from, read_signed, literal_from, read_literal, read_value, column_after, read_column, read_bare, term_after, read_term}
+use Rattle.sql_parse.specs.inner.readers.Tokens.{Read, is_word, is_comma, is_dot, is_plus, is_name, at_head, read_after, read_separated, place_before}
+use Rattle.sql_parse.specs.inner.readers.Terms.{Named, read_name, name_from, read_names, read_alias, number_from, read_number, signed_from, read_signed, literal_from, read_literal, read_value, column_after, read_column, read_bare, term_after, read_term}
 use Rattle.sql_parse.proofs.SoundTokens.{Sound, Reads, sound_weaker, sound_none, sound_found, sound_then, sound_last, sound_regroup, sound_placed, sound_if, sound_first, comma_is, sound_word, sound_open, sound_close, sound_dot, separated_sound}
 
 -- lists with commas

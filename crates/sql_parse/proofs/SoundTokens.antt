@@ -10,7 +10,7 @@ use Rattle.sql_lex.specs.declared.token.Kind.{Kind}
 use Rattle.sql_lex.specs.declared.token.Kind.TheVariants.{Name, Reserved, Sign}
 use Rattle.sql_lex.specs.declared.token.Token.{Token}
 use Rattle.sql_parse.specs.grammar.Words.{word, called, sign, span_of}
-use Rattle.sql_parse.specs.reading.Tokens.{Read, found, and_then, is_word, is_open, is_close, is_comma, is_dot, is_semicolon, is_star, is_called, at_head, expect, place_before, read_while, read_parts, read_alone, read_after, read_separated, all_read}
+use Rattle.sql_parse.specs.inner.readers.Tokens.{Read, found, and_then, is_word, is_open, is_close, is_comma, is_dot, is_semicolon, is_star, is_called, at_head, expect, place_before, read_while, read_parts, read_alone, read_after, read_separated, all_read}
 use Rattle.sql_parse.proofs.Shorter.{Meets, meets_weaker}
 
 -- what is found, by its tokens and those that are left

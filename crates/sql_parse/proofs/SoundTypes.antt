@@ -10,8 +10,8 @@ use Rattle.sql_tree.specs.declared.schema.TypeTree.TheVariants.{Integer, Text}
 use Rattle.sql_parse.specs.grammar.Words.{word, called, sign, number, CONSTRAINT}
 use Rattle.sql_parse.specs.grammar.Tables as table
 use Rattle.sql_parse.specs.grammar.Tables.{IsChar, SpellsType, SpellsDefault, SpellsConstraint}
-use Rattle.sql_parse.specs.reading.Tokens.{found, is_word, is_open, is_called, at_head, read_after}
-use Rattle.sql_parse.specs.reading.Tables.{read_length, character_rest, is_character, is_integer, type_from, read_type, read_default, read_constraint}
+use Rattle.sql_parse.specs.inner.readers.Tokens.{found, is_word, is_open, is_called, at_head, read_after}
+use Rattle.sql_parse.specs.inner.readers.Tables.{read_length, character_rest, is_character, is_integer, type_from, read_type, read_default, read_constraint}
 use Rattle.sql_parse.proofs.SoundTokens.{Sound, Reads, sound_weaker, sound_none, sound_found, sound_first, sound_then, sound_last, sound_regroup, sound_if, either, called_is, sound_word, sound_called, sound_open, sound_close}
 use Rattle.sql_parse.proofs.SoundTerms.{name_sound, number_sound, value_sound}
 

@@ -4,9 +4,9 @@ use Rattle.sql_lex.specs.declared.token.Token.{Token}
 use Rattle.sql_tree.specs.declared.schema.CreateTable.{CreateTable}
 use Rattle.sql_parse.specs.declared.front.ParseStop.{ParseStop}
 use Rattle.sql_parse.specs.declared.front.ParseStop.TheVariants as stop
-use Rattle.sql_parse.specs.reading.Tokens.{Read, found, and_then, is_semicolon, at_head, expect, read_after}
-use Rattle.sql_parse.specs.reading.Gives.{Stops}
-use Rattle.sql_parse.specs.reading.Schemas.{read_statement, read_next_statement, read_schema}
+use Rattle.sql_parse.specs.inner.readers.Tokens.{Read, found, and_then, is_semicolon, at_head, expect, read_after}
+use Rattle.sql_parse.specs.inner.readers.Gives.{Stops}
+use Rattle.sql_parse.specs.inner.readers.Schemas.{read_statement, read_next_statement, read_schema}
 use Rattle.sql_parse.proofs.Shorter.{next_statement_below, next_statement_shorter}
 use Rattle.sql_parse.proofs.Collected.{from_here, goes_on, ends, stops, stops_whole}
 

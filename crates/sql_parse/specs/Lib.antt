@@ -1,3 +1,3 @@
 pub mod grammar
-pub mod reading
+pub mod inner
 pub mod Refusals

@@ -8,4 +8,3 @@ pub mod Selects
 pub mod Queries
 pub mod Tables
 pub mod Schemas
-pub mod Examples

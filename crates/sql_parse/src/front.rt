@@ -1,8 +1,8 @@
 //! Reading from the front of a list of tokens.
 ghost use Rattle.std.specs.Prelude.{◌≡◌};
 ghost use Rattle.sql_parse.specs.grammar.Words.{span_of, end_of};
-ghost use Rattle.sql_parse.specs.reading.Tokens.{at_head, place_before};
-ghost use Rattle.sql_parse.specs.reading.Gives.{is_mark, GivesToken, GivesMaybe};
+ghost use Rattle.sql_parse.specs.inner.readers.Tokens.{at_head, place_before};
+ghost use Rattle.sql_parse.specs.inner.readers.Gives.{is_mark, GivesToken, GivesMaybe};
 
 use lint_base::{NoMemory, Span};
 use sql_lex::{Kind, Sign, Token};
@@ -62,8 +62,8 @@ pub(crate) struct Nesting {
     pub depth: usize,
 }
 
-/// Whether a token is so.
-#[tactic(auto, unfolding(crate::specs::reading::Tokens::is_word, crate::specs::reading::Tokens::is_open, crate::specs::reading::Tokens::is_close, crate::specs::reading::Tokens::is_comma, crate::specs::reading::Tokens::is_dot, crate::specs::reading::Tokens::is_star, crate::specs::reading::Tokens::is_semicolon, crate::specs::reading::Tokens::is_plus, crate::specs::reading::Tokens::is_name))]
+/// Whether `mark` names tokens of this kind.
+#[tactic(auto, unfolding(crate::specs::inner::readers::Tokens::is_word, crate::specs::inner::readers::Tokens::is_open, crate::specs::inner::readers::Tokens::is_close, crate::specs::inner::readers::Tokens::is_comma, crate::specs::inner::readers::Tokens::is_dot, crate::specs::inner::readers::Tokens::is_star, crate::specs::inner::readers::Tokens::is_semicolon, crate::specs::inner::readers::Tokens::is_plus, crate::specs::inner::readers::Tokens::is_name))]
 pub(crate) fn is(kind: &Kind, mark: Mark) -> bool
     ensures { result ≡ is_mark mark kind.now }
 {
@@ -81,7 +81,7 @@ pub(crate) fn is(kind: &Kind, mark: Mark) -> bool
 }
 
 /// Whether the first token is so.
-#[tactic(auto, unfolding(crate::specs::reading::Tokens::at_head))]
+#[tactic(auto, unfolding(crate::specs::inner::readers::Tokens::at_head))]
 pub(crate) fn at(tokens: &[Token], mark: Mark) -> bool
     ensures { result ≡ at_head (is_mark mark) tokens.now }
 {
@@ -92,7 +92,7 @@ pub(crate) fn at(tokens: &[Token], mark: Mark) -> bool
 }
 
 /// A first token that is so, and those after it.
-#[tactic(auto, unfolding(crate::specs::reading::Tokens::at_head, crate::specs::reading::Tokens::expect))]
+#[tactic(auto, unfolding(crate::specs::inner::readers::Tokens::at_head, crate::specs::inner::readers::Tokens::expect))]
 pub(crate) fn next(tokens: &[Token], mark: Mark) -> Option<(&Token, &[Token])>
     ensures { GivesMaybe (is_mark mark) tokens.now result }
 {
@@ -103,7 +103,7 @@ pub(crate) fn next(tokens: &[Token], mark: Mark) -> Option<(&Token, &[Token])>
 }
 
 /// The same, where nothing else can be.
-#[tactic(auto, unfolding(crate::specs::reading::Tokens::at_head, crate::specs::reading::Tokens::expect))]
+#[tactic(auto, unfolding(crate::specs::inner::readers::Tokens::at_head, crate::specs::inner::readers::Tokens::expect))]
 pub(crate) fn expect(tokens: &[Token], mark: Mark) -> Result<(&Token, &[Token]), ParseStop>
     ensures { GivesToken (is_mark mark) tokens.now result }
 {
@@ -138,7 +138,7 @@ pub(crate) fn span_of(tokens: &[Token]) -> Span
 }
 
 /// The place of the tokens before the rest.
-#[tactic(auto, unfolding(crate::specs::reading::Tokens::place_before))]
+#[tactic(auto, unfolding(crate::specs::inner::readers::Tokens::place_before))]
 pub(crate) fn place_before(tokens: &[Token], rest: &[Token]) -> Span
     ensures { result ≡ place_before tokens.now rest.now }
 {

@@ -1,8 +1,8 @@
 //! The readers of what a SELECT begins with, and of the entries of FROM by themselves.
 ghost use Rattle.std.specs.Prelude.{◌≡◌};
-ghost use Rattle.sql_parse.specs.reading.Tokens.{is_comma, read_separated};
-ghost use Rattle.sql_parse.specs.reading.Items.{read_quantifier, item_after, dotted_item, named_item, read_item, read_items, read_entry};
-ghost use Rattle.sql_parse.specs.reading.Gives.{Gives};
+ghost use Rattle.sql_parse.specs.inner.readers.Tokens.{is_comma, read_separated};
+ghost use Rattle.sql_parse.specs.inner.readers.Items.{read_quantifier, item_after, dotted_item, named_item, read_item, read_items, read_entry};
+ghost use Rattle.sql_parse.specs.inner.readers.Gives.{Gives};
 
 use crate::front::{Mark, ParseStop, at, next, place_before};
 use crate::lists::separated;
@@ -14,7 +14,7 @@ use sql_tree::{ItemTree, NameTree, TermTree};
 use std::alloc::Global;
 
 /// [ ALL | DISTINCT ], of a scalar subquery [ ALL ]: the place of DISTINCT.
-#[tactic(auto, unfolding(crate::specs::reading::Items::read_quantifier, crate::specs::reading::Tokens::and_then))]
+#[tactic(auto, unfolding(crate::specs::inner::readers::Items::read_quantifier, crate::specs::inner::readers::Tokens::and_then))]
 pub(crate) fn quantifier(
     tokens: &[Token],
     scalar: bool,
@@ -34,7 +34,7 @@ pub(crate) fn quantifier(
 }
 
 /// A term that was read, and [ [ AS ] name ] after it.
-#[tactic(auto, unfolding(crate::specs::reading::Items::item_after, crate::specs::reading::Tokens::and_then))]
+#[tactic(auto, unfolding(crate::specs::inner::readers::Items::item_after, crate::specs::inner::readers::Tokens::and_then))]
 fn aliased<'a>(
     alloc: Global,
     tokens: &'a [Token],
@@ -48,7 +48,7 @@ fn aliased<'a>(
 }
 
 /// After a name and a dot: * or the name of a column.
-#[tactic(auto, unfolding(crate::specs::reading::Items::dotted_item, crate::specs::reading::Tokens::and_then))]
+#[tactic(auto, unfolding(crate::specs::inner::readers::Items::dotted_item, crate::specs::inner::readers::Tokens::and_then))]
 fn dotted_item<'a>(
     alloc: Global,
     tokens: &'a [Token],
@@ -78,7 +78,7 @@ fn dotted_item<'a>(
 }
 
 /// After a name.
-#[tactic(auto, unfolding(crate::specs::reading::Items::named_item, crate::specs::reading::Tokens::and_then))]
+#[tactic(auto, unfolding(crate::specs::inner::readers::Items::named_item, crate::specs::inner::readers::Tokens::and_then))]
 fn named_item<'a>(
     alloc: Global,
     tokens: &'a [Token],
@@ -101,7 +101,7 @@ fn named_item<'a>(
 }
 
 /// An item.
-#[tactic(auto, unfolding(crate::specs::reading::Items::read_item, crate::specs::reading::Tokens::and_then))]
+#[tactic(auto, unfolding(crate::specs::inner::readers::Items::read_item, crate::specs::inner::readers::Tokens::and_then))]
 fn item<'a>(alloc: Global, tokens: &'a [Token]) -> Result<(ItemTree, &'a [Token]), ParseStop>
     ensures { Gives (read_item tokens.now) result }
 {
@@ -124,7 +124,7 @@ fn listed_items<'a>(
 }
 
 /// All columns, or items.
-#[tactic(auto, unfolding(crate::specs::reading::Items::read_items, crate::specs::reading::Tokens::and_then))]
+#[tactic(auto, unfolding(crate::specs::inner::readers::Items::read_items, crate::specs::inner::readers::Tokens::and_then))]
 pub(crate) fn items<'a>(
     alloc: Global,
     tokens: &'a [Token],
@@ -140,7 +140,7 @@ pub(crate) fn items<'a>(
 }
 
 /// An entry of FROM by itself: a table, and [ [ AS ] name ].
-#[tactic(auto, unfolding(crate::specs::reading::Items::read_entry, crate::specs::reading::Tokens::and_then))]
+#[tactic(auto, unfolding(crate::specs::inner::readers::Items::read_entry, crate::specs::inner::readers::Tokens::and_then))]
 pub(crate) fn entry<'a>(
     alloc: Global,
     tokens: &'a [Token],

@@ -2,9 +2,9 @@
 ghost use Rattle.std.specs.Prelude.{◌≡◌, ◌<◌, List, length, IfOk};
 ghost use Rattle.std.specs.Borrow.{Bor};
 ghost use Rattle.sql_lex.specs.declared.token.Token.{Token as Tokens};
-ghost use Rattle.sql_parse.specs.reading.Tokens.{Read, read_separated};
-ghost use Rattle.sql_parse.specs.reading.Gives.{Gives, is_mark};
-ghost use Rattle.sql_parse.specs.reading.Separated.{Shorter, TakesTokens, AlwaysGives};
+ghost use Rattle.sql_parse.specs.inner.readers.Tokens.{Read, read_separated};
+ghost use Rattle.sql_parse.specs.inner.readers.Gives.{Gives, is_mark};
+ghost use Rattle.sql_parse.specs.inner.readers.Separated.{Shorter, TakesTokens, AlwaysGives};
 
 use crate::front::{Mark, ParseStop, next};
 use lint_base::Items;
@@ -21,7 +21,8 @@ pub(crate) fn separated<'a, T: Drop, F: Fn(&'a [Token]) -> Result<(T, &'a [Token
 ) -> Result<(Items<T>, &'a [Token]), ParseStop>
     requires callable { F.IsAlwaysCallable part }
     requires shorter { TakesTokens (F.post part) }
-    ensures { (read : List Tokens → Read T) → Shorter read → AlwaysGives (F.post part) read → Gives (read_separated (is_mark mark) read tokens.now) result }
+    ensures { (read : List Tokens → Read T) → Shorter read → AlwaysGives (F.post part) read →
+        Gives (read_separated (is_mark mark) read tokens.now) result }
 {
     let (first, mut rest) = part(tokens)?;
     let mut parts = Items::new(alloc);

@@ -1,9 +1,9 @@
 //! The reader of ORDER BY.
 ghost use Rattle.std.specs.Prelude.{◌≡◌};
 ghost use Rattle.sql_tree.specs.declared.select.OrderTree.{OrderTree as Key};
-ghost use Rattle.sql_parse.specs.reading.Tokens.{found, is_comma, read_separated};
-ghost use Rattle.sql_parse.specs.reading.Queries.{directed, read_key, read_order};
-ghost use Rattle.sql_parse.specs.reading.Gives.{Gives};
+ghost use Rattle.sql_parse.specs.inner.readers.Tokens.{found, is_comma, read_separated};
+ghost use Rattle.sql_parse.specs.inner.readers.Queries.{directed, read_key, read_order};
+ghost use Rattle.sql_parse.specs.inner.readers.Gives.{Gives};
 
 use crate::front::{Mark, ParseStop, at, expect, next};
 use crate::lists::separated;
@@ -16,7 +16,7 @@ use sql_tree::OrderTree;
 use std::alloc::Global;
 
 /// The tokens after [ ASC | DESC ], which leaves nothing in the tree.
-#[tactic(auto, using(crate::proofs::Called::called_words), unfolding(crate::specs::reading::Queries::directed, crate::specs::reading::Queries::is_direction, crate::specs::reading::Tokens::at_head, crate::specs::reading::Tokens::expect, crate::specs::reading::Tokens::and_then))]
+#[tactic(auto, using(crate::proofs::Called::called_words), unfolding(crate::specs::inner::readers::Queries::directed, crate::specs::inner::readers::Queries::is_direction, crate::specs::inner::readers::Tokens::at_head, crate::specs::inner::readers::Tokens::expect, crate::specs::inner::readers::Tokens::and_then))]
 fn after_direction(tokens: &[Token]) -> &[Token]
     ensures { (key : Key) → directed key tokens.now ≡ found key result.now }
 {
@@ -28,7 +28,7 @@ fn after_direction(tokens: &[Token]) -> &[Token]
 }
 
 /// A key: a column, or the number of an item.
-#[tactic(auto, unfolding(crate::specs::reading::Queries::read_key, crate::specs::reading::Tokens::and_then))]
+#[tactic(auto, unfolding(crate::specs::inner::readers::Queries::read_key, crate::specs::inner::readers::Tokens::and_then))]
 fn key<'a>(alloc: Global, tokens: &'a [Token]) -> Result<(OrderTree, &'a [Token]), ParseStop>
     ensures { Gives (read_key tokens.now) result }
 {
@@ -51,7 +51,7 @@ fn listed_keys<'a>(
 }
 
 /// [ ORDER BY key { , key } ]
-#[tactic(auto, unfolding(crate::specs::reading::Queries::read_order, crate::specs::reading::Tokens::and_then, crate::specs::reading::Tokens::read_after))]
+#[tactic(auto, unfolding(crate::specs::inner::readers::Queries::read_order, crate::specs::inner::readers::Tokens::and_then, crate::specs::inner::readers::Tokens::read_after))]
 pub(crate) fn order<'a>(
     alloc: Global,
     tokens: &'a [Token],

@@ -2,10 +2,10 @@
 ghost use Rattle.std.specs.Prelude.{◌≡◌, Bool, List};
 ghost use Rattle.sql_lex.specs.declared.token.Token.{Token as Tokens};
 ghost use Rattle.sql_tree.specs.declared.select.SelectTree.{SelectTree};
-ghost use Rattle.sql_parse.specs.reading.Tokens.{Read, is_comma, read_separated};
-ghost use Rattle.sql_parse.specs.reading.Terms.{read_value};
-ghost use Rattle.sql_parse.specs.reading.Predicates.{read_not, null_rest, between_rest, values_rest};
-ghost use Rattle.sql_parse.specs.reading.Gives.{Gives};
+ghost use Rattle.sql_parse.specs.inner.readers.Tokens.{Read, is_comma, read_separated};
+ghost use Rattle.sql_parse.specs.inner.readers.Terms.{read_value};
+ghost use Rattle.sql_parse.specs.inner.readers.Predicates.{read_not, null_rest, between_rest, values_rest};
+ghost use Rattle.sql_parse.specs.inner.readers.Gives.{Gives};
 
 use crate::front::{Mark, ParseStop, expect, next, place_before};
 use crate::lists::separated;
@@ -17,7 +17,7 @@ use sql_tree::{CondTree, TermTree};
 use std::alloc::Global;
 
 /// [ NOT ]
-#[tactic(auto, unfolding(crate::specs::reading::Predicates::read_not, crate::specs::reading::Tokens::and_then))]
+#[tactic(auto, unfolding(crate::specs::inner::readers::Predicates::read_not, crate::specs::inner::readers::Tokens::and_then))]
 pub(crate) fn not_word(tokens: &[Token]) -> Result<(bool, &[Token]), ParseStop>
     ensures { Gives (read_not tokens.now) result }
 {
@@ -28,13 +28,14 @@ pub(crate) fn not_word(tokens: &[Token]) -> Result<(bool, &[Token]), ParseStop>
 }
 
 /// What comes after IS.
-#[tactic(auto, unfolding(crate::specs::reading::Predicates::null_rest, crate::specs::reading::Tokens::and_then))]
+#[tactic(auto, unfolding(crate::specs::inner::readers::Predicates::null_rest, crate::specs::inner::readers::Tokens::and_then))]
 pub(crate) fn null_rest<'a>(
     tokens: &'a [Token],
     term: TermTree,
     rest: &'a [Token],
 ) -> Result<(CondTree, &'a [Token]), ParseStop>
-    ensures { (sub : Bool → List Tokens → Read SelectTree) → Gives (null_rest sub tokens.now term rest.now) result }
+    ensures { (sub : Bool → List Tokens → Read SelectTree) →
+        Gives (null_rest sub tokens.now term rest.now) result }
 {
     let (negated, rest) = not_word(rest)?;
     let (_, rest) = expect(rest, NULL)?;
@@ -50,7 +51,7 @@ pub(crate) fn null_rest<'a>(
 }
 
 /// What comes after BETWEEN.
-#[tactic(auto, unfolding(crate::specs::reading::Predicates::between_rest, crate::specs::reading::Tokens::and_then))]
+#[tactic(auto, unfolding(crate::specs::inner::readers::Predicates::between_rest, crate::specs::inner::readers::Tokens::and_then))]
 pub(crate) fn between_rest<'a>(
     alloc: Global,
     tokens: &'a [Token],
@@ -58,7 +59,8 @@ pub(crate) fn between_rest<'a>(
     negated: bool,
     rest: &'a [Token],
 ) -> Result<(CondTree, &'a [Token]), ParseStop>
-    ensures { (sub : Bool → List Tokens → Read SelectTree) → Gives (between_rest sub tokens.now first negated rest.now) result }
+    ensures { (sub : Bool → List Tokens → Read SelectTree) →
+        Gives (between_rest sub tokens.now first negated rest.now) result }
 {
     let (low, rest) = term(alloc, rest)?;
     let (_, rest) = expect(rest, AND)?;
@@ -87,7 +89,7 @@ fn listed_values<'a>(
 }
 
 /// What comes after IN and a parenthesis, where it is no subquery.
-#[tactic(auto, unfolding(crate::specs::reading::Predicates::values_rest, crate::specs::reading::Tokens::and_then))]
+#[tactic(auto, unfolding(crate::specs::inner::readers::Predicates::values_rest, crate::specs::inner::readers::Tokens::and_then))]
 pub(crate) fn values_rest<'a>(
     alloc: Global,
     tokens: &'a [Token],
@@ -95,7 +97,8 @@ pub(crate) fn values_rest<'a>(
     negated: bool,
     rest: &'a [Token],
 ) -> Result<(CondTree, &'a [Token]), ParseStop>
-    ensures { (sub : Bool → List Tokens → Read SelectTree) → Gives (values_rest sub tokens.now term negated rest.now) result }
+    ensures { (sub : Bool → List Tokens → Read SelectTree) →
+        Gives (values_rest sub tokens.now term negated rest.now) result }
 {
     let (values, rest) = listed_values(alloc, rest)?;
     let (_, rest) = expect(rest, Mark::Close)?;

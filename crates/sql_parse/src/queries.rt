@@ -1,7 +1,7 @@
 //! The reader of queries.
 ghost use Rattle.std.specs.Prelude.{◌≡◌, ◌<◌, ◌^◌, length, IfOk, IfErr};
-ghost use Rattle.sql_parse.specs.reading.Queries.{query_of};
-ghost use Rattle.sql_parse.specs.reading.Leaves.{GivesWhole};
+ghost use Rattle.sql_parse.specs.inner.readers.Queries.{query_of};
+ghost use Rattle.sql_parse.specs.inner.readers.Leaves.{GivesWhole};
 ghost use Rattle.sql_parse.specs.Refusals.{IsQuery, IsRefusedQuery};
 
 use crate::front::{Nesting, ParseStop, span_of};
@@ -14,7 +14,7 @@ use sql_tree::QueryTree;
 use std::alloc::Global;
 
 /// The query that has all the tokens.
-#[tactic(auto, unfolding(crate::specs::reading::Queries::query_of, crate::specs::reading::Queries::read_query, crate::specs::reading::Tokens::and_then, crate::specs::reading::Tokens::all_read))]
+#[tactic(auto, unfolding(crate::specs::inner::readers::Queries::query_of, crate::specs::inner::readers::Queries::read_query, crate::specs::inner::readers::Tokens::and_then, crate::specs::inner::readers::Tokens::all_read))]
 fn query(alloc: Global, tokens: &[Token]) -> Result<QueryTree, ParseStop>
     ensures { GivesWhole (query_of tokens.now) result }
 {

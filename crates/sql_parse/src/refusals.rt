@@ -2,7 +2,7 @@
 ghost use Rattle.std.specs.Prelude.{◌≡◌, ◌<◌, ◌≤◌, ◌^◌, length, IfSome, IsNone};
 ghost use Rattle.lint_base.specs.declared.place.Fault.TheVariants as fault;
 ghost use Rattle.sql_parse.specs.Refusals.{open_after, too_deep, IsNoQuery};
-ghost use Rattle.sql_parse.specs.reading.Stopped.{stopped_at};
+ghost use Rattle.sql_parse.specs.inner.readers.Stopped.{stopped_at};
 
 use crate::front::end_of;
 use lint_base::{Fault, Refusal, Span};
@@ -81,7 +81,11 @@ fn place_of(tokens: &[Token], left: usize) -> Span
 
 /// The refusal of tokens whose reading stopped before the last `left` of them.
 pub(crate) fn syntax_at(tokens: &[Token], left: usize) -> Refusal
-    ensures { result ≡ record { fault = fault.Syntax; span = stopped_at tokens.now left; count = 0 } }
+    ensures { result ≡ record {
+      fault = fault.Syntax;
+      span = stopped_at tokens.now left;
+      count = 0;
+    } }
 {
     Refusal {
         fault: Fault::Syntax,

@@ -1,9 +1,9 @@
 //! The reader of schemas.
 ghost use Rattle.std.specs.Prelude.{◌<◌, ◌^◌, length, IfOk, IfErr};
 ghost use Rattle.sql_parse.specs.Refusals.{IsSchema, IsRefusedSchema};
-ghost use Rattle.sql_parse.specs.reading.Gives.{Gives};
-ghost use Rattle.sql_parse.specs.reading.Leaves.{GivesAlone, GivesWhole};
-ghost use Rattle.sql_parse.specs.reading.Schemas.{read_statement, read_schema, schema_of};
+ghost use Rattle.sql_parse.specs.inner.readers.Gives.{Gives};
+ghost use Rattle.sql_parse.specs.inner.readers.Leaves.{GivesAlone, GivesWhole};
+ghost use Rattle.sql_parse.specs.inner.readers.Schemas.{read_statement, read_schema, schema_of};
 
 use crate::front::{Mark, ParseStop, at, next};
 use crate::refusals::{deep_at, syntax_at, too_deep};
@@ -15,7 +15,7 @@ use sql_tree::CreateTable;
 use std::alloc::Global;
 
 /// A statement, which may be empty.
-#[tactic(auto, unfolding(crate::specs::reading::Schemas::read_statement, crate::specs::reading::Tokens::and_then))]
+#[tactic(auto, unfolding(crate::specs::inner::readers::Schemas::read_statement, crate::specs::inner::readers::Tokens::and_then))]
 fn statement<'a>(
     alloc: Global,
     depth: usize,
@@ -51,7 +51,7 @@ fn statements<'a>(
 }
 
 /// The tables that all the tokens declare.
-#[tactic(auto, unfolding(crate::specs::reading::Schemas::schema_of, crate::specs::reading::Tokens::all_read))]
+#[tactic(auto, unfolding(crate::specs::inner::readers::Schemas::schema_of, crate::specs::inner::readers::Tokens::all_read))]
 fn schema(alloc: Global, tokens: &[Token]) -> Result<Items<CreateTable>, ParseStop>
     ensures { GivesWhole (schema_of tokens.now) result }
 {
@@ -62,10 +62,11 @@ fn schema(alloc: Global, tokens: &[Token]) -> Result<Items<CreateTable>, ParseSt
     Ok(tables)
 }
 
-/// The tables that the tokens of a schema declare, in order. Where they declare none for a fault, the first
-/// of these refuses them:
+/// The tables that the tokens of a schema declare, in order. Where they declare none for a fault,
+/// the first of these refuses them:
 ///
-/// - `Deep` at the first left parenthesis behind which more than 32 are open; a semicolon closes none;
+/// - `Deep` at the first left parenthesis behind which more than 32 are open; a semicolon closes
+///   none;
 /// - `Syntax` at the token, or behind the last one, where reading from the left stopped.
 ///
 /// `NoMemory` comes where memory runs out.

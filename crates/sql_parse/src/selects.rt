@@ -3,11 +3,11 @@ ghost use Rattle.std.specs.Prelude.{◌≡◌, ◌++◌, IfOk, IfErr, length};
 ghost use Rattle.sql_tree.specs.declared.select.CondTree.TheVariants as cond;
 ghost use Rattle.sql_parse.specs.declared.front.ParseStop.TheVariants as stop;
 ghost use Rattle.sql_parse.specs.grammar.Selects.{alone_or};
-ghost use Rattle.sql_parse.specs.reading.Tokens.{at_head};
-ghost use Rattle.sql_parse.specs.reading.Predicates.{comparison_rest, in_rest, negatable, read_predicate};
-ghost use Rattle.sql_parse.specs.reading.Selects.{placed, is_join, without_inner, cross_joined, inner_joined, read_join, read_group, read_groups, read_where, read_select, read_subquery, read_parenthesized, read_exists, read_primary, read_factor, read_conjunction, read_cond};
-ghost use Rattle.sql_parse.specs.reading.Gives.{Gives};
-ghost use Rattle.sql_parse.specs.reading.Operators.{GivesOperator};
+ghost use Rattle.sql_parse.specs.inner.readers.Tokens.{at_head};
+ghost use Rattle.sql_parse.specs.inner.readers.Predicates.{comparison_rest, in_rest, negatable, read_predicate};
+ghost use Rattle.sql_parse.specs.inner.readers.Selects.{placed, is_join, without_inner, cross_joined, inner_joined, read_join, read_group, read_groups, read_where, read_select, read_subquery, read_parenthesized, read_exists, read_primary, read_factor, read_conjunction, read_cond};
+ghost use Rattle.sql_parse.specs.inner.readers.Gives.{Gives};
+ghost use Rattle.sql_parse.specs.inner.readers.Operators.{GivesOperator};
 
 use crate::front::{Mark, Nesting, ParseStop, at, expect, next, place_before};
 use crate::items::{entry, items, quantifier};
@@ -72,7 +72,7 @@ pub(crate) fn placed(parts: Parts, span: Span) -> SelectTree
 }
 
 /// Whether a join comes.
-#[tactic(auto, unfolding(crate::specs::reading::Tokens::at_head, crate::specs::reading::Selects::is_join))]
+#[tactic(auto, unfolding(crate::specs::inner::readers::Tokens::at_head, crate::specs::inner::readers::Selects::is_join))]
 fn at_join(tokens: &[Token]) -> bool
     ensures { result ≡ at_head is_join tokens.now }
 {
@@ -80,14 +80,15 @@ fn at_join(tokens: &[Token]) -> bool
 }
 
 /// CROSS JOIN and an entry.
-#[tactic(auto, unfolding(crate::specs::reading::Selects::cross_joined, crate::specs::reading::Tokens::and_then, crate::specs::reading::Tokens::read_after))]
+#[tactic(auto, unfolding(crate::specs::inner::readers::Selects::cross_joined, crate::specs::inner::readers::Tokens::and_then, crate::specs::inner::readers::Tokens::read_after))]
 fn cross_joined<'a>(
     alloc: Global,
     nesting: Nesting,
     first: u32,
     tokens: &'a [Token],
 ) -> Result<(EntryTree, &'a [Token]), ParseStop>
-    ensures { Gives (cross_joined nesting.flat (read_cond nesting.flat nesting.depth) first tokens.now) result }
+    ensures { Gives (cross_joined nesting.flat (read_cond nesting.flat nesting.depth) first
+        tokens.now) result }
 {
     let (_, rest) = expect(tokens, CROSS)?;
     let (_, rest) = expect(rest, JOIN)?;
@@ -104,7 +105,7 @@ fn cross_joined<'a>(
 }
 
 /// [ INNER ]
-#[tactic(auto, unfolding(crate::specs::reading::Selects::without_inner, crate::specs::reading::Tokens::and_then))]
+#[tactic(auto, unfolding(crate::specs::inner::readers::Selects::without_inner, crate::specs::inner::readers::Tokens::and_then))]
 fn without_inner(tokens: &[Token]) -> Result<(bool, &[Token]), ParseStop>
     ensures { Gives (without_inner tokens.now) result }
 {
@@ -116,14 +117,15 @@ fn without_inner(tokens: &[Token]) -> Result<(bool, &[Token]), ParseStop>
 
 /// [ INNER ] JOIN, an entry, ON and a condition.
 #[cycle(nested)]
-#[tactic(auto, unfolding(crate::specs::reading::Selects::inner_joined, crate::specs::reading::Tokens::and_then, crate::specs::reading::Tokens::read_after))]
+#[tactic(auto, unfolding(crate::specs::inner::readers::Selects::inner_joined, crate::specs::inner::readers::Tokens::and_then, crate::specs::inner::readers::Tokens::read_after))]
 fn inner_joined<'a>(
     alloc: Global,
     nesting: Nesting,
     first: u32,
     tokens: &'a [Token],
 ) -> Result<(EntryTree, &'a [Token]), ParseStop>
-    ensures { Gives (inner_joined nesting.flat (read_cond nesting.flat nesting.depth) first tokens.now) result }
+    ensures { Gives (inner_joined nesting.flat (read_cond nesting.flat nesting.depth) first
+        tokens.now) result }
 {
     let (_, rest) = without_inner(tokens)?;
     let (_, rest) = expect(rest, JOIN)?;
@@ -143,14 +145,15 @@ fn inner_joined<'a>(
 
 /// A join.
 #[cycle(nested)]
-#[tactic(auto, unfolding(crate::specs::reading::Selects::read_join))]
+#[tactic(auto, unfolding(crate::specs::inner::readers::Selects::read_join))]
 fn join<'a>(
     alloc: Global,
     nesting: Nesting,
     first: u32,
     tokens: &'a [Token],
 ) -> Result<(EntryTree, &'a [Token]), ParseStop>
-    ensures { Gives (read_join nesting.flat (read_cond nesting.flat nesting.depth) first tokens.now) result }
+    ensures { Gives (read_join nesting.flat (read_cond nesting.flat nesting.depth) first
+        tokens.now) result }
 {
     if at(tokens, CROSS) {
         return cross_joined(alloc, nesting, first, tokens);
@@ -167,7 +170,8 @@ fn group<'a>(
     first: u32,
     tokens: &'a [Token],
 ) -> Result<(Items<EntryTree>, &'a [Token]), ParseStop>
-    ensures { Gives (read_group nesting.flat (read_cond nesting.flat nesting.depth) first tokens.now) result }
+    ensures { Gives (read_group nesting.flat (read_cond nesting.flat nesting.depth) first
+        tokens.now) result }
 {
     let ((table, alias), mut rest) = entry(alloc, tokens)?;
     let mut entries = Items::new(alloc);
@@ -218,7 +222,8 @@ fn groups<'a>(
     nesting: Nesting,
     tokens: &'a [Token],
 ) -> Result<(Items<EntryTree>, &'a [Token]), ParseStop>
-    ensures { Gives (read_groups nesting.flat (read_cond nesting.flat nesting.depth) tokens.now) result }
+    ensures { Gives (read_groups nesting.flat (read_cond nesting.flat nesting.depth) tokens.now)
+        result }
 {
     let (mut entries, mut rest) = group(alloc, nesting, 0, tokens)?;
     'groups: while let Some((_, after)) = next(rest, Mark::Comma) {
@@ -232,13 +237,14 @@ fn groups<'a>(
 
 /// [ WHERE condition ]
 #[cycle(nested)]
-#[tactic(auto, unfolding(crate::specs::reading::Selects::read_where, crate::specs::reading::Tokens::and_then, crate::specs::reading::Tokens::read_after))]
+#[tactic(auto, unfolding(crate::specs::inner::readers::Selects::read_where, crate::specs::inner::readers::Tokens::and_then, crate::specs::inner::readers::Tokens::read_after))]
 fn filter<'a>(
     alloc: Global,
     nesting: Nesting,
     tokens: &'a [Token],
 ) -> Result<(Option<CondTree>, &'a [Token]), ParseStop>
-    ensures { Gives (read_where nesting.flat (read_cond nesting.flat nesting.depth) tokens.now) result }
+    ensures { Gives (read_where nesting.flat (read_cond nesting.flat nesting.depth) tokens.now)
+        result }
 {
     if let Some((_, rest)) = next(tokens, WHERE) {
         let (tree, rest) = condition(alloc, nesting, rest)?;
@@ -249,14 +255,15 @@ fn filter<'a>(
 
 /// A SELECT, with no DISTINCT where it is scalar.
 #[cycle(nested)]
-#[tactic(auto, unfolding(crate::specs::reading::Selects::read_select, crate::specs::reading::Tokens::and_then, crate::specs::reading::Tokens::read_after))]
+#[tactic(auto, unfolding(crate::specs::inner::readers::Selects::read_select, crate::specs::inner::readers::Tokens::and_then, crate::specs::inner::readers::Tokens::read_after))]
 pub(crate) fn select<'a>(
     alloc: Global,
     nesting: Nesting,
     scalar: bool,
     tokens: &'a [Token],
 ) -> Result<(Parts, &'a [Token]), ParseStop>
-    ensures { Gives (read_select nesting.flat (read_cond nesting.flat nesting.depth) scalar tokens.now) result }
+    ensures { Gives (read_select nesting.flat (read_cond nesting.flat nesting.depth) scalar
+        tokens.now) result }
 {
     let (_, rest) = expect(tokens, SELECT)?;
     let (distinct, rest) = quantifier(rest, scalar)?;
@@ -269,14 +276,15 @@ pub(crate) fn select<'a>(
 
 /// A SELECT in parentheses.
 #[cycle(nested)]
-#[tactic(auto, unfolding(crate::specs::reading::Selects::read_subquery, crate::specs::reading::Tokens::and_then, crate::specs::reading::Tokens::read_after))]
+#[tactic(auto, unfolding(crate::specs::inner::readers::Selects::read_subquery, crate::specs::inner::readers::Tokens::and_then, crate::specs::inner::readers::Tokens::read_after))]
 fn subquery<'a>(
     alloc: Global,
     nesting: Nesting,
     scalar: bool,
     tokens: &'a [Token],
 ) -> Result<(SelectTree, &'a [Token]), ParseStop>
-    ensures { Gives (read_subquery nesting.flat (read_cond nesting.flat nesting.depth) scalar tokens.now) result }
+    ensures { Gives (read_subquery nesting.flat (read_cond nesting.flat nesting.depth) scalar
+        tokens.now) result }
 {
     if nesting.flat {
         return Err(ParseStop::Syntax(tokens.len()));
@@ -288,7 +296,7 @@ fn subquery<'a>(
 }
 
 /// The operator of a comparison.
-#[tactic(auto, unfolding(crate::specs::reading::Operators::operator_of, crate::specs::reading::Operators::first_operator))]
+#[tactic(auto, unfolding(crate::specs::inner::readers::Operators::operator_of, crate::specs::inner::readers::Operators::first_operator))]
 fn operator(tokens: &[Token]) -> Option<(Op, &[Token])>
     ensures { GivesOperator tokens.now result }
 {
@@ -308,7 +316,7 @@ fn operator(tokens: &[Token]) -> Option<(Op, &[Token])>
 
 /// What comes after the operator of a comparison.
 #[cycle(nested)]
-#[tactic(auto, unfolding(crate::specs::reading::Predicates::comparison_rest, crate::specs::reading::Tokens::and_then))]
+#[tactic(auto, unfolding(crate::specs::inner::readers::Predicates::comparison_rest, crate::specs::inner::readers::Tokens::and_then))]
 fn comparison_rest<'a>(
     alloc: Global,
     nesting: Nesting,
@@ -317,7 +325,8 @@ fn comparison_rest<'a>(
     op: Op,
     rest: &'a [Token],
 ) -> Result<(CondTree, &'a [Token]), ParseStop>
-    ensures { Gives (comparison_rest (read_subquery nesting.flat (read_cond nesting.flat nesting.depth)) tokens.now left op rest.now) result }
+    ensures { Gives (comparison_rest (read_subquery nesting.flat
+        (read_cond nesting.flat nesting.depth)) tokens.now left op rest.now) result }
 {
     if at(rest, Mark::Open) {
         let (select, rest) = subquery(alloc, nesting, true, rest)?;
@@ -348,7 +357,7 @@ fn comparison_rest<'a>(
 
 /// What comes after IN.
 #[cycle(nested)]
-#[tactic(auto, unfolding(crate::specs::reading::Predicates::in_rest, crate::specs::reading::Predicates::list_or_select, crate::specs::reading::Tokens::and_then))]
+#[tactic(auto, unfolding(crate::specs::inner::readers::Predicates::in_rest, crate::specs::inner::readers::Predicates::list_or_select, crate::specs::inner::readers::Tokens::and_then))]
 fn in_rest<'a>(
     alloc: Global,
     nesting: Nesting,
@@ -357,7 +366,8 @@ fn in_rest<'a>(
     negated: bool,
     rest: &'a [Token],
 ) -> Result<(CondTree, &'a [Token]), ParseStop>
-    ensures { Gives (in_rest (read_subquery nesting.flat (read_cond nesting.flat nesting.depth)) tokens.now term negated rest.now) result }
+    ensures { Gives (in_rest (read_subquery nesting.flat
+        (read_cond nesting.flat nesting.depth)) tokens.now term negated rest.now) result }
 {
     let (_, inside) = expect(rest, Mark::Open)?;
     if at(inside, SELECT) {
@@ -379,7 +389,7 @@ fn in_rest<'a>(
 
 /// BETWEEN or IN, after NOT or not.
 #[cycle(nested)]
-#[tactic(auto, unfolding(crate::specs::reading::Predicates::negatable, crate::specs::reading::Tokens::and_then))]
+#[tactic(auto, unfolding(crate::specs::inner::readers::Predicates::negatable, crate::specs::inner::readers::Tokens::and_then))]
 fn negatable<'a>(
     alloc: Global,
     nesting: Nesting,
@@ -388,7 +398,8 @@ fn negatable<'a>(
     negated: bool,
     rest: &'a [Token],
 ) -> Result<(CondTree, &'a [Token]), ParseStop>
-    ensures { Gives (negatable (read_subquery nesting.flat (read_cond nesting.flat nesting.depth)) tokens.now term negated rest.now) result }
+    ensures { Gives (negatable (read_subquery nesting.flat
+        (read_cond nesting.flat nesting.depth)) tokens.now term negated rest.now) result }
 {
     if let Some((_, rest)) = next(rest, BETWEEN) {
         return between_rest(alloc, tokens, term, negated, rest);
@@ -405,7 +416,8 @@ fn predicate<'a>(
     nesting: Nesting,
     tokens: &'a [Token],
 ) -> Result<(CondTree, &'a [Token]), ParseStop>
-    ensures { Gives (read_predicate (read_subquery nesting.flat (read_cond nesting.flat nesting.depth)) tokens.now) result }
+    ensures { Gives (read_predicate (read_subquery nesting.flat
+        (read_cond nesting.flat nesting.depth)) tokens.now) result }
 {
     let (term, rest) = term(alloc, tokens)?;
     if let Some((op, rest)) = operator(rest) {
@@ -420,13 +432,14 @@ fn predicate<'a>(
 
 /// A condition in parentheses.
 #[cycle(nested)]
-#[tactic(auto, unfolding(crate::specs::reading::Selects::read_parenthesized, crate::specs::reading::Tokens::and_then, crate::specs::reading::Tokens::read_after))]
+#[tactic(auto, unfolding(crate::specs::inner::readers::Selects::read_parenthesized, crate::specs::inner::readers::Tokens::and_then, crate::specs::inner::readers::Tokens::read_after))]
 fn parenthesized<'a>(
     alloc: Global,
     nesting: Nesting,
     tokens: &'a [Token],
 ) -> Result<(CondTree, &'a [Token]), ParseStop>
-    ensures { Gives (read_parenthesized nesting.flat (read_cond nesting.flat nesting.depth) tokens.now) result }
+    ensures { Gives (read_parenthesized nesting.flat
+        (read_cond nesting.flat nesting.depth) tokens.now) result }
 {
     let (_, inside) = expect(tokens, Mark::Open)?;
     let (tree, rest) = condition(alloc, nesting, inside)?;
@@ -436,13 +449,14 @@ fn parenthesized<'a>(
 
 /// EXISTS and a subquery.
 #[cycle(nested)]
-#[tactic(auto, unfolding(crate::specs::reading::Selects::read_exists, crate::specs::reading::Tokens::and_then, crate::specs::reading::Tokens::read_after))]
+#[tactic(auto, unfolding(crate::specs::inner::readers::Selects::read_exists, crate::specs::inner::readers::Tokens::and_then, crate::specs::inner::readers::Tokens::read_after))]
 fn exists<'a>(
     alloc: Global,
     nesting: Nesting,
     tokens: &'a [Token],
 ) -> Result<(CondTree, &'a [Token]), ParseStop>
-    ensures { Gives (read_exists nesting.flat (read_cond nesting.flat nesting.depth) tokens.now) result }
+    ensures { Gives (read_exists nesting.flat (read_cond nesting.flat nesting.depth) tokens.now)
+        result }
 {
     let (_, rest) = expect(tokens, EXISTS)?;
     let (select, rest) = subquery(alloc, nesting, false, rest)?;
@@ -453,13 +467,14 @@ fn exists<'a>(
 
 /// What NOT stands before.
 #[cycle(nested)]
-#[tactic(auto, unfolding(crate::specs::reading::Selects::read_primary))]
+#[tactic(auto, unfolding(crate::specs::inner::readers::Selects::read_primary))]
 fn primary<'a>(
     alloc: Global,
     nesting: Nesting,
     tokens: &'a [Token],
 ) -> Result<(CondTree, &'a [Token]), ParseStop>
-    ensures { Gives (read_primary nesting.flat (read_cond nesting.flat nesting.depth) tokens.now) result }
+    ensures { Gives (read_primary nesting.flat (read_cond nesting.flat nesting.depth) tokens.now)
+        result }
 {
     if at(tokens, Mark::Open) {
         return parenthesized(alloc, nesting, tokens);
@@ -472,13 +487,14 @@ fn primary<'a>(
 
 /// A part of a conjunction.
 #[cycle(nested)]
-#[tactic(auto, unfolding(crate::specs::reading::Selects::read_factor, crate::specs::reading::Tokens::and_then, crate::specs::reading::Tokens::read_after))]
+#[tactic(auto, unfolding(crate::specs::inner::readers::Selects::read_factor, crate::specs::inner::readers::Tokens::and_then, crate::specs::inner::readers::Tokens::read_after))]
 fn factor<'a>(
     alloc: Global,
     nesting: Nesting,
     tokens: &'a [Token],
 ) -> Result<(CondTree, &'a [Token]), ParseStop>
-    ensures { Gives (read_factor nesting.flat (read_cond nesting.flat nesting.depth) tokens.now) result }
+    ensures { Gives (read_factor nesting.flat (read_cond nesting.flat nesting.depth) tokens.now)
+        result }
 {
     if let Some((_, after)) = next(tokens, NOT) {
         let (inner, rest) = primary(alloc, nesting, after)?;
@@ -496,7 +512,8 @@ fn conjunction<'a>(
     nesting: Nesting,
     tokens: &'a [Token],
 ) -> Result<(CondTree, &'a [Token]), ParseStop>
-    ensures { Gives (read_conjunction nesting.flat (read_cond nesting.flat nesting.depth) tokens.now) result }
+    ensures { Gives (read_conjunction nesting.flat (read_cond nesting.flat nesting.depth)
+        tokens.now) result }
 {
     let (first, mut rest) = factor(alloc, nesting, tokens)?;
     let mut parts = Items::new(alloc);
@@ -511,7 +528,7 @@ fn conjunction<'a>(
 
 /// A whole condition.
 #[cycle(nested)]
-#[tactic(auto, using(crate::proofs::Separated::separated_rules, crate::proofs::Shorter::conjunction_shorter, crate::proofs::Conditions::condition_rules), unfolding(crate::specs::reading::Selects::read_cond))]
+#[tactic(auto, using(crate::proofs::Separated::separated_rules, crate::proofs::Shorter::conjunction_shorter, crate::proofs::Conditions::condition_rules), unfolding(crate::specs::inner::readers::Selects::read_cond))]
 pub(crate) fn condition<'a>(
     alloc: Global,
     nesting: Nesting,

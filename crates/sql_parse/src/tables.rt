@@ -1,11 +1,11 @@
 //! The readers of declarations of tables.
 ghost use Rattle.std.specs.Prelude.{◌≡◌, ℕ, false, [], ◌∷◌, ◌++◌, codes, IfOk, OnOk, OnErr};
 ghost use Rattle.sql_parse.specs.grammar.Tables.{last_end};
-ghost use Rattle.sql_parse.specs.reading.Tokens.{is_called, is_comma, at_head, read_after, read_separated};
-ghost use Rattle.sql_parse.specs.reading.Terms.{read_names};
-ghost use Rattle.sql_parse.specs.reading.Gives.{Gives, GivesToken};
-ghost use Rattle.sql_parse.specs.reading.Leaves.{Leaves, GivesAlone, alone};
-ghost use Rattle.sql_parse.specs.reading.Tables.{read_length, character_rest, read_type, read_default, read_constraint, is_set_value, is_event, read_action, read_event, read_actions, read_one_name, read_target, read_reference, foreign_tree, begins_rule, read_check, word_rule, read_column_rule, read_named_rule, read_rules, read_table_rule, read_declared_column, read_element, read_elements, read_create};
+ghost use Rattle.sql_parse.specs.inner.readers.Tokens.{is_called, is_comma, at_head, read_after, read_separated};
+ghost use Rattle.sql_parse.specs.inner.readers.Terms.{read_names};
+ghost use Rattle.sql_parse.specs.inner.readers.Gives.{Gives, GivesToken};
+ghost use Rattle.sql_parse.specs.inner.readers.Leaves.{Leaves, GivesAlone, alone};
+ghost use Rattle.sql_parse.specs.inner.readers.Tables.{read_length, character_rest, read_type, read_default, read_constraint, is_set_value, is_event, read_action, read_event, read_actions, read_one_name, read_target, read_reference, foreign_tree, begins_rule, read_check, word_rule, read_column_rule, read_named_rule, read_rules, read_table_rule, read_declared_column, read_element, read_elements, read_create};
 
 use crate::front::{Mark, Nesting, ParseStop, at, expect, is, next};
 use crate::lists::separated;
@@ -21,7 +21,7 @@ use sql_tree::{CondTree, CreateTable, Element, NameTree, RuleTree, TypeTree};
 use std::alloc::Global;
 
 /// A length in parentheses.
-#[tactic(auto, unfolding(crate::specs::reading::Tables::read_length, crate::specs::reading::Tokens::and_then, crate::specs::reading::Tokens::read_after))]
+#[tactic(auto, unfolding(crate::specs::inner::readers::Tables::read_length, crate::specs::inner::readers::Tokens::and_then, crate::specs::inner::readers::Tokens::read_after))]
 fn length_of_text(tokens: &[Token]) -> Result<(TypeTree, &[Token]), ParseStop>
     ensures { Gives (read_length tokens.now) result }
 {
@@ -32,7 +32,7 @@ fn length_of_text(tokens: &[Token]) -> Result<(TypeTree, &[Token]), ParseStop>
 }
 
 /// What follows the word CHAR or CHARACTER, whose place this is.
-#[tactic(auto, using(crate::proofs::Called::called_words), unfolding(crate::specs::reading::Tables::character_rest, crate::specs::reading::Tokens::and_then, crate::specs::reading::Tokens::read_after))]
+#[tactic(auto, using(crate::proofs::Called::called_words), unfolding(crate::specs::inner::readers::Tables::character_rest, crate::specs::inner::readers::Tokens::and_then, crate::specs::inner::readers::Tokens::read_after))]
 fn character_rest(place: Span, tokens: &[Token]) -> Result<(TypeTree, &[Token]), ParseStop>
     ensures { Gives (character_rest place tokens.now) result }
 {
@@ -52,7 +52,7 @@ fn character_rest(place: Span, tokens: &[Token]) -> Result<(TypeTree, &[Token]),
 }
 
 /// A type.
-#[tactic(auto, using(crate::proofs::Called::called_words), unfolding(crate::specs::reading::Tables::read_type, crate::specs::reading::Tables::type_from, crate::specs::reading::Tables::is_integer, crate::specs::reading::Tables::is_character))]
+#[tactic(auto, using(crate::proofs::Called::called_words), unfolding(crate::specs::inner::readers::Tables::read_type, crate::specs::inner::readers::Tables::type_from, crate::specs::inner::readers::Tables::is_integer, crate::specs::inner::readers::Tables::is_character))]
 fn type_of_column(tokens: &[Token]) -> Result<(TypeTree, &[Token]), ParseStop>
     ensures { Gives (read_type tokens.now) result }
 {
@@ -75,7 +75,7 @@ fn type_of_column(tokens: &[Token]) -> Result<(TypeTree, &[Token]), ParseStop>
 }
 
 /// What follows a DEFAULT with its value, where there is one.
-#[tactic(auto, using(crate::proofs::Called::called_words), unfolding(crate::specs::reading::Tables::read_default, crate::specs::reading::Tokens::and_then, crate::specs::reading::Tokens::read_after))]
+#[tactic(auto, using(crate::proofs::Called::called_words), unfolding(crate::specs::inner::readers::Tables::read_default, crate::specs::inner::readers::Tokens::and_then, crate::specs::inner::readers::Tokens::read_after))]
 fn after_default(alloc: Global, tokens: &[Token]) -> Result<&[Token], ParseStop>
     ensures { Leaves false (read_default tokens.now) result }
 {
@@ -87,7 +87,7 @@ fn after_default(alloc: Global, tokens: &[Token]) -> Result<&[Token], ParseStop>
 }
 
 /// What follows a CONSTRAINT with its name, where there is one.
-#[tactic(auto, unfolding(crate::specs::reading::Tables::read_constraint, crate::specs::reading::Tokens::and_then, crate::specs::reading::Tokens::read_after))]
+#[tactic(auto, unfolding(crate::specs::inner::readers::Tables::read_constraint, crate::specs::inner::readers::Tokens::and_then, crate::specs::inner::readers::Tokens::read_after))]
 fn after_constraint(alloc: Global, tokens: &[Token]) -> Result<&[Token], ParseStop>
     ensures { Leaves false (read_constraint tokens.now) result }
 {
@@ -99,7 +99,7 @@ fn after_constraint(alloc: Global, tokens: &[Token]) -> Result<&[Token], ParseSt
 }
 
 /// The NULL or DEFAULT of SET.
-#[tactic(auto, using(crate::proofs::Called::called_words), unfolding(crate::specs::reading::Tables::is_set_value, crate::specs::reading::Tokens::expect))]
+#[tactic(auto, using(crate::proofs::Called::called_words), unfolding(crate::specs::inner::readers::Tables::is_set_value, crate::specs::inner::readers::Tokens::expect))]
 fn set_value(tokens: &[Token]) -> Result<(&Token, &[Token]), ParseStop>
     ensures { GivesToken is_set_value tokens.now result }
 {
@@ -112,7 +112,7 @@ fn set_value(tokens: &[Token]) -> Result<(&Token, &[Token]), ParseStop>
 }
 
 /// What follows CASCADE, RESTRICT, SET NULL, SET DEFAULT or NO ACTION.
-#[tactic(auto, using(crate::proofs::Called::called_words), unfolding(crate::specs::reading::Tables::read_action, crate::specs::reading::Tables::action_from, crate::specs::reading::Tables::is_plain_action, crate::specs::reading::Tokens::and_then))]
+#[tactic(auto, using(crate::proofs::Called::called_words), unfolding(crate::specs::inner::readers::Tables::read_action, crate::specs::inner::readers::Tables::action_from, crate::specs::inner::readers::Tables::is_plain_action, crate::specs::inner::readers::Tokens::and_then))]
 fn after_action(tokens: &[Token]) -> Result<&[Token], ParseStop>
     ensures { Leaves false (read_action tokens.now) result }
 {
@@ -133,7 +133,7 @@ fn after_action(tokens: &[Token]) -> Result<&[Token], ParseStop>
 }
 
 /// The DELETE or UPDATE of an action.
-#[tactic(auto, using(crate::proofs::Called::called_words), unfolding(crate::specs::reading::Tables::is_event, crate::specs::reading::Tokens::expect))]
+#[tactic(auto, using(crate::proofs::Called::called_words), unfolding(crate::specs::inner::readers::Tables::is_event, crate::specs::inner::readers::Tokens::expect))]
 fn event(tokens: &[Token]) -> Result<(&Token, &[Token]), ParseStop>
     ensures { GivesToken is_event tokens.now result }
 {
@@ -147,7 +147,7 @@ fn event(tokens: &[Token]) -> Result<(&Token, &[Token]), ParseStop>
 }
 
 /// What follows ON with its event and its action.
-#[tactic(auto, unfolding(crate::specs::reading::Tables::read_event, crate::specs::reading::Tokens::and_then, crate::specs::reading::Tokens::read_after))]
+#[tactic(auto, unfolding(crate::specs::inner::readers::Tables::read_event, crate::specs::inner::readers::Tokens::and_then, crate::specs::inner::readers::Tokens::read_after))]
 fn after_event(tokens: &[Token]) -> Result<&[Token], ParseStop>
     ensures { Leaves [] (read_event 0 tokens.now) result }
 {
@@ -157,7 +157,7 @@ fn after_event(tokens: &[Token]) -> Result<&[Token], ParseStop>
 }
 
 /// What follows the actions of a reference.
-#[tactic(auto, unfolding(crate::specs::reading::Tables::read_actions))]
+#[tactic(auto, unfolding(crate::specs::inner::readers::Tables::read_actions))]
 fn after_actions(tokens: &[Token]) -> Result<&[Token], ParseStop>
     ensures { Leaves false (read_actions tokens.now) result }
 {
@@ -169,7 +169,7 @@ fn after_actions(tokens: &[Token]) -> Result<&[Token], ParseStop>
 }
 
 /// A name in parentheses.
-#[tactic(auto, unfolding(crate::specs::reading::Tables::read_one_name, crate::specs::reading::Tokens::and_then, crate::specs::reading::Tokens::read_after))]
+#[tactic(auto, unfolding(crate::specs::inner::readers::Tables::read_one_name, crate::specs::inner::readers::Tokens::and_then, crate::specs::inner::readers::Tokens::read_after))]
 fn one_name<'a>(
     alloc: Global,
     tokens: &'a [Token],
@@ -184,7 +184,7 @@ fn one_name<'a>(
 }
 
 /// The columns that a reference names, where it does; at a column one.
-#[tactic(auto, unfolding(crate::specs::reading::Tables::read_target))]
+#[tactic(auto, unfolding(crate::specs::inner::readers::Tables::read_target))]
 fn target<'a>(
     alloc: Global,
     one: bool,
@@ -202,7 +202,7 @@ fn target<'a>(
 }
 
 /// A reference: the table and the columns that it names.
-#[tactic(auto, unfolding(crate::specs::reading::Tables::read_reference, crate::specs::reading::Tokens::and_then, crate::specs::reading::Tokens::read_after))]
+#[tactic(auto, unfolding(crate::specs::inner::readers::Tables::read_reference, crate::specs::inner::readers::Tokens::and_then, crate::specs::inner::readers::Tokens::read_after))]
 fn reference<'a>(
     alloc: Global,
     one: bool,
@@ -250,7 +250,7 @@ fn foreign(
 }
 
 /// CHECK with its condition, which has no subquery.
-#[tactic(auto, unfolding(crate::specs::reading::Tables::read_check, crate::specs::reading::Tokens::and_then, crate::specs::reading::Tokens::read_after))]
+#[tactic(auto, unfolding(crate::specs::inner::readers::Tables::read_check, crate::specs::inner::readers::Tokens::and_then, crate::specs::inner::readers::Tokens::read_after))]
 fn check<'a>(
     alloc: Global,
     depth: usize,
@@ -294,14 +294,15 @@ fn column_alone(alloc: Global, column: &NameTree) -> Result<Items<NameTree>, NoM
 }
 
 /// What follows the first word of a rule at a column that a word says without more.
-#[tactic(auto, using(crate::proofs::Called::called_words), unfolding(crate::specs::reading::Tables::word_rule, crate::specs::reading::Tokens::and_then))]
+#[tactic(auto, using(crate::proofs::Called::called_words), unfolding(crate::specs::inner::readers::Tables::word_rule, crate::specs::inner::readers::Tokens::and_then))]
 fn word_rule<'a>(
     alloc: Global,
     column: &NameTree,
     token: &Token,
     rest: &'a [Token],
 ) -> Result<(Option<RuleTree>, &'a [Token]), ParseStop>
-    ensures { (depth : ℕ) → GivesAlone (word_rule depth column.now token.now.kind token.now.span rest.now) result }
+    ensures { (depth : ℕ) → GivesAlone (word_rule depth column.now token.now.kind token.now.span
+        rest.now) result }
 {
     if is(&token.kind, NOT) {
         let (_, rest) = expect(rest, NULL)?;
@@ -322,7 +323,7 @@ fn word_rule<'a>(
 }
 
 /// A rule at a column. NULL is none.
-#[tactic(auto, unfolding(crate::specs::reading::Tables::read_column_rule, crate::specs::reading::Tables::column_rule_from, crate::specs::reading::Tokens::and_then))]
+#[tactic(auto, unfolding(crate::specs::inner::readers::Tables::read_column_rule, crate::specs::inner::readers::Tables::column_rule_from, crate::specs::inner::readers::Tokens::and_then))]
 fn column_rule<'a>(
     alloc: Global,
     depth: usize,
@@ -347,7 +348,7 @@ fn column_rule<'a>(
 }
 
 /// A rule at a column that may have a name.
-#[tactic(auto, unfolding(crate::specs::reading::Tables::read_named_rule, crate::specs::reading::Tokens::and_then))]
+#[tactic(auto, unfolding(crate::specs::inner::readers::Tables::read_named_rule, crate::specs::inner::readers::Tokens::and_then))]
 fn named_rule<'a>(
     alloc: Global,
     depth: usize,
@@ -361,7 +362,7 @@ fn named_rule<'a>(
 }
 
 /// What a rule at a column begins with.
-#[tactic(auto, unfolding(crate::specs::reading::Tables::begins_rule))]
+#[tactic(auto, unfolding(crate::specs::inner::readers::Tables::begins_rule))]
 fn begins_rule(kind: &Kind) -> bool
     ensures { result ≡ begins_rule kind.now }
 {
@@ -375,7 +376,7 @@ fn begins_rule(kind: &Kind) -> bool
 }
 
 /// Whether a rule at a column comes first.
-#[tactic(auto, unfolding(crate::specs::reading::Tokens::at_head))]
+#[tactic(auto, unfolding(crate::specs::inner::readers::Tokens::at_head))]
 fn at_rule(tokens: &[Token]) -> bool
     ensures { result ≡ at_head begins_rule tokens.now }
 {
@@ -397,7 +398,7 @@ pub(crate) fn add_optional<T: Drop>(items: &mut Items<T>, item: Option<T>) -> Re
 }
 
 /// The rules at a column.
-#[tactic(auto, unfolding(crate::specs::reading::Tables::read_rules))]
+#[tactic(auto, unfolding(crate::specs::inner::readers::Tables::read_rules))]
 fn rules<'a>(
     alloc: Global,
     depth: usize,
@@ -417,7 +418,7 @@ fn rules<'a>(
 }
 
 /// The names after KEY.
-#[tactic(auto, using(crate::proofs::Called::called_words), unfolding(crate::specs::reading::Tokens::and_then, crate::specs::reading::Tokens::read_after))]
+#[tactic(auto, using(crate::proofs::Called::called_words), unfolding(crate::specs::inner::readers::Tokens::and_then, crate::specs::inner::readers::Tokens::read_after))]
 fn key_names<'a>(
     alloc: Global,
     tokens: &'a [Token],
@@ -429,7 +430,7 @@ fn key_names<'a>(
 }
 
 /// A rule beside the columns.
-#[tactic(auto, unfolding(crate::specs::reading::Tables::read_table_rule, crate::specs::reading::Tables::table_rule_from, crate::specs::reading::Tables::read_key_names, crate::specs::reading::Tokens::and_then))]
+#[tactic(auto, unfolding(crate::specs::inner::readers::Tables::read_table_rule, crate::specs::inner::readers::Tables::table_rule_from, crate::specs::inner::readers::Tables::read_key_names, crate::specs::inner::readers::Tokens::and_then))]
 fn table_rule<'a>(
     alloc: Global,
     depth: usize,
@@ -465,7 +466,7 @@ fn table_rule<'a>(
 }
 
 /// A column with its type and its rules.
-#[tactic(auto, unfolding(crate::specs::reading::Tables::read_declared_column, crate::specs::reading::Tokens::and_then))]
+#[tactic(auto, unfolding(crate::specs::inner::readers::Tables::read_declared_column, crate::specs::inner::readers::Tokens::and_then))]
 fn column<'a>(
     alloc: Global,
     depth: usize,
@@ -481,7 +482,7 @@ fn column<'a>(
 }
 
 /// A column, or a rule beside the columns.
-#[tactic(auto, unfolding(crate::specs::reading::Tables::read_element, crate::specs::reading::Tokens::and_then))]
+#[tactic(auto, unfolding(crate::specs::inner::readers::Tables::read_element, crate::specs::inner::readers::Tokens::and_then))]
 fn element<'a>(
     alloc: Global,
     depth: usize,
@@ -514,7 +515,7 @@ fn listed_elements<'a>(
 }
 
 /// The elements of a table, in parentheses.
-#[tactic(auto, unfolding(crate::specs::reading::Tables::read_elements, crate::specs::reading::Tokens::and_then, crate::specs::reading::Tokens::read_after))]
+#[tactic(auto, unfolding(crate::specs::inner::readers::Tables::read_elements, crate::specs::inner::readers::Tokens::and_then, crate::specs::inner::readers::Tokens::read_after))]
 fn elements<'a>(
     alloc: Global,
     depth: usize,
@@ -529,7 +530,7 @@ fn elements<'a>(
 }
 
 /// A declaration of a table. Conditions are nested to less than the depth.
-#[tactic(auto, unfolding(crate::specs::reading::Tables::read_create, crate::specs::reading::Tokens::and_then, crate::specs::reading::Tokens::read_after))]
+#[tactic(auto, unfolding(crate::specs::inner::readers::Tables::read_create, crate::specs::inner::readers::Tokens::and_then, crate::specs::inner::readers::Tokens::read_after))]
 pub(crate) fn create<'a>(
     alloc: Global,
     depth: usize,

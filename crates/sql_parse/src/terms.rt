@@ -1,8 +1,8 @@
 //! The readers of names, values, columns and terms.
 ghost use Rattle.std.specs.Prelude.{◌≡◌, ◌≤◌, pos, int_le, true, IfOk};
-ghost use Rattle.sql_parse.specs.reading.Tokens.{and_then, is_comma, read_separated};
-ghost use Rattle.sql_parse.specs.reading.Terms.{read_name, read_names, read_alias, read_number, read_signed, read_literal, read_value, read_column, read_bare, read_term, term_after};
-ghost use Rattle.sql_parse.specs.reading.Gives.{Gives};
+ghost use Rattle.sql_parse.specs.inner.readers.Tokens.{and_then, is_comma, read_separated};
+ghost use Rattle.sql_parse.specs.inner.readers.Terms.{read_name, read_names, read_alias, read_number, read_signed, read_literal, read_value, read_column, read_bare, read_term, term_after};
+ghost use Rattle.sql_parse.specs.inner.readers.Gives.{Gives};
 
 use crate::front::{Mark, ParseStop, at, expect, next, place_before};
 use crate::lists::separated;
@@ -13,7 +13,7 @@ use sql_tree::{NameTree, TermTree};
 use std::alloc::Global;
 
 /// A name.
-#[tactic(auto, unfolding(crate::specs::reading::Terms::read_name, crate::specs::reading::Terms::name_from))]
+#[tactic(auto, unfolding(crate::specs::inner::readers::Terms::read_name, crate::specs::inner::readers::Terms::name_from))]
 pub(crate) fn name<'a>(
     alloc: Global,
     tokens: &'a [Token],
@@ -38,7 +38,7 @@ pub(crate) fn name<'a>(
 }
 
 /// [ [ AS ] name ]
-#[tactic(auto, unfolding(crate::specs::reading::Terms::read_alias, crate::specs::reading::Tokens::and_then, crate::specs::reading::Tokens::read_after))]
+#[tactic(auto, unfolding(crate::specs::inner::readers::Terms::read_alias, crate::specs::inner::readers::Tokens::and_then, crate::specs::inner::readers::Tokens::read_after))]
 pub(crate) fn alias<'a>(
     alloc: Global,
     tokens: &'a [Token],
@@ -57,7 +57,7 @@ pub(crate) fn alias<'a>(
 }
 
 /// A number, which has no sign, and its place.
-#[tactic(auto, unfolding(crate::specs::reading::Terms::read_number, crate::specs::reading::Terms::number_from))]
+#[tactic(auto, unfolding(crate::specs::inner::readers::Terms::read_number, crate::specs::inner::readers::Terms::number_from))]
 pub(crate) fn number(tokens: &[Token]) -> Result<((i64, Span), &[Token]), ParseStop>
     ensures read { Gives (read_number tokens.now) result }
     ensures unsigned { IfOk result (λ x. int_le (pos 0) x.0.0 ≡ true) }
@@ -77,7 +77,7 @@ pub(crate) fn number(tokens: &[Token]) -> Result<((i64, Span), &[Token]), ParseS
 }
 
 /// + or - and a number.
-#[tactic(auto, unfolding(crate::specs::reading::Terms::read_signed, crate::specs::reading::Terms::signed_from, crate::specs::reading::Tokens::and_then))]
+#[tactic(auto, unfolding(crate::specs::inner::readers::Terms::read_signed, crate::specs::inner::readers::Terms::signed_from, crate::specs::inner::readers::Tokens::and_then))]
 pub(crate) fn signed(tokens: &[Token]) -> Result<(i64, &[Token]), ParseStop>
     ensures { Gives (read_signed tokens.now) result }
 {
@@ -111,7 +111,7 @@ pub(crate) fn signed(tokens: &[Token]) -> Result<(i64, &[Token]), ParseStop>
 }
 
 /// A literal.
-#[tactic(auto, unfolding(crate::specs::reading::Terms::read_literal, crate::specs::reading::Terms::literal_from, crate::specs::reading::Tokens::and_then))]
+#[tactic(auto, unfolding(crate::specs::inner::readers::Terms::read_literal, crate::specs::inner::readers::Terms::literal_from, crate::specs::inner::readers::Tokens::and_then))]
 pub(crate) fn literal<'a>(
     alloc: Global,
     tokens: &'a [Token],
@@ -161,7 +161,7 @@ pub(crate) fn literal<'a>(
 }
 
 /// A value.
-#[tactic(auto, unfolding(crate::specs::reading::Terms::read_value, crate::specs::reading::Tokens::and_then))]
+#[tactic(auto, unfolding(crate::specs::inner::readers::Terms::read_value, crate::specs::inner::readers::Tokens::and_then))]
 pub(crate) fn value<'a>(
     alloc: Global,
     tokens: &'a [Token],
@@ -175,7 +175,7 @@ pub(crate) fn value<'a>(
 }
 
 /// [ name "." ] name
-#[tactic(auto, unfolding(crate::specs::reading::Terms::read_column, crate::specs::reading::Terms::column_after, crate::specs::reading::Tokens::and_then, crate::specs::reading::Tokens::read_after))]
+#[tactic(auto, unfolding(crate::specs::inner::readers::Terms::read_column, crate::specs::inner::readers::Terms::column_after, crate::specs::inner::readers::Tokens::and_then, crate::specs::inner::readers::Tokens::read_after))]
 pub(crate) fn column<'a>(
     alloc: Global,
     tokens: &'a [Token],
@@ -191,7 +191,7 @@ pub(crate) fn column<'a>(
 }
 
 /// A column to which nothing is added.
-#[tactic(auto, unfolding(crate::specs::reading::Terms::read_bare, crate::specs::reading::Tokens::and_then))]
+#[tactic(auto, unfolding(crate::specs::inner::readers::Terms::read_bare, crate::specs::inner::readers::Tokens::and_then))]
 pub(crate) fn bare_column<'a>(
     alloc: Global,
     tokens: &'a [Token],
@@ -212,7 +212,7 @@ pub(crate) fn bare_column<'a>(
 }
 
 /// A column, with what is added to it.
-#[tactic(auto, unfolding(crate::specs::reading::Terms::term_after, crate::specs::reading::Tokens::and_then))]
+#[tactic(auto, unfolding(crate::specs::inner::readers::Terms::term_after, crate::specs::inner::readers::Tokens::and_then))]
 fn sum<'a>(alloc: Global, tokens: &'a [Token]) -> Result<(TermTree, &'a [Token]), ParseStop>
     ensures { Gives (and_then (read_column tokens.now) (term_after tokens.now)) result }
 {
@@ -243,7 +243,7 @@ fn sum<'a>(alloc: Global, tokens: &'a [Token]) -> Result<(TermTree, &'a [Token])
 }
 
 /// A term.
-#[tactic(auto, unfolding(crate::specs::reading::Terms::read_term))]
+#[tactic(auto, unfolding(crate::specs::inner::readers::Terms::read_term))]
 pub(crate) fn term<'a>(
     alloc: Global,
     tokens: &'a [Token],
@@ -267,7 +267,7 @@ fn listed_names<'a>(
 }
 
 /// Names in parentheses.
-#[tactic(auto, unfolding(crate::specs::reading::Terms::read_names, crate::specs::reading::Tokens::and_then))]
+#[tactic(auto, unfolding(crate::specs::inner::readers::Terms::read_names, crate::specs::inner::readers::Tokens::and_then))]
 pub(crate) fn names<'a>(
     alloc: Global,
     tokens: &'a [Token],

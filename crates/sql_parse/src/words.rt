@@ -1,8 +1,8 @@
 //! Words that are not reserved, as KEY and INTEGER: names that are recognised in their place.
 ghost use Rattle.std.specs.Prelude.{◌≡◌};
 ghost use Rattle.std.specs.Str.{bytes_eq, chars};
-ghost use Rattle.sql_parse.specs.reading.Tokens.{is_called};
-ghost use Rattle.sql_parse.specs.reading.Gives.{GivesToken, GivesMaybe};
+ghost use Rattle.sql_parse.specs.inner.readers.Tokens.{is_called};
+ghost use Rattle.sql_parse.specs.inner.readers.Gives.{GivesToken, GivesMaybe};
 
 use crate::front::ParseStop;
 use lint_base::Str;
@@ -15,7 +15,7 @@ fn is_text(text: &Str, word: &str) -> bool
 }
 
 /// Whether it is this word, without quotes.
-#[tactic(auto, unfolding(crate::specs::reading::Tokens::is_called))]
+#[tactic(auto, unfolding(crate::specs::inner::readers::Tokens::is_called))]
 pub(crate) fn is_called(kind: &Kind, word: &str) -> bool
     ensures { result ≡ is_called (chars word.now) kind.now }
 {
@@ -26,7 +26,7 @@ pub(crate) fn is_called(kind: &Kind, word: &str) -> bool
 }
 
 /// A first token that is this word, and those after it.
-#[tactic(auto, unfolding(crate::specs::reading::Tokens::at_head, crate::specs::reading::Tokens::expect))]
+#[tactic(auto, unfolding(crate::specs::inner::readers::Tokens::at_head, crate::specs::inner::readers::Tokens::expect))]
 pub(crate) fn next_called<'a>(tokens: &'a [Token], word: &str) -> Option<(&'a Token, &'a [Token])>
     ensures { GivesMaybe (is_called (chars word.now)) tokens.now result }
 {
@@ -37,7 +37,7 @@ pub(crate) fn next_called<'a>(tokens: &'a [Token], word: &str) -> Option<(&'a To
 }
 
 /// The same, where nothing else can be.
-#[tactic(auto, unfolding(crate::specs::reading::Tokens::expect))]
+#[tactic(auto, unfolding(crate::specs::inner::readers::Tokens::expect))]
 pub(crate) fn expect_called<'a>(
     tokens: &'a [Token],
     word: &str,

@@ -29,32 +29,19 @@ SpellsWhole text tokens = Spells 0 (slice_range text 0 (length text)) tokens
 spells : (text : List ℕ) (tokens : List Token) → SpellsWhole text tokens → Spells 0 text tokens
 spells text tokens spelled = subst (λ all. Spells 0 all tokens) (whole text) spelled
 
--- the tokens of a schema
-pub schema_lexed : (text : List ℕ) (stop : TextStop) → IsRefused 0 (slice_range text 0 (length text)) stop → StopsSchema text stop
-schema_lexed text NoMemory refused = tt
-schema_lexed text (Refused refusal) refused = reading.lexical (subst (λ all. IsFaulty 0 all refusal) (whole text) refused)
-
--- its trees
+-- a schema whose tokens have no trees
 pub schema_parsed : (text : List ℕ) (tokens : List Token) (stop : TextStop) → SpellsWhole text tokens → IsRefusedSchema tokens stop → StopsSchema text stop
 schema_parsed text tokens NoMemory spelled refused = tt
 schema_parsed text tokens (Refused refusal) spelled refused = reading.grammar tokens (spells text tokens spelled) refused
 
--- and the schema
+-- or whose trees were not bound
 module _ (text : List ℕ) (tokens : List Token) (trees : List CreateTable) (spelled : SpellsWhole text tokens) (parsed : IsSchema tokens trees) where
-  pub schema_read : (bound : Result (List Table) TextStop) → Gives (bind_schema trees) bound → IfOk bound (λ schema. ReadsSchema text schema)
-  schema_read (Ok schema) bound = record { tokens = tokens; trees = trees; spelled = spells text tokens spelled; parsed = parsed; bound = bound }
-  schema_read (Err stop) bound = tt
-
   pub schema_bound : (bound : Result (List Table) TextStop) → Gives (bind_schema trees) bound → IfErr bound (λ stop. StopsSchema text stop)
   schema_bound (Ok schema) bound = tt
   schema_bound (Err NoMemory) bound = tt
   schema_bound (Err (Refused refusal)) bound = reading.binding tokens trees (spells text tokens spelled) parsed bound
 
 -- the same of a piece
-pub query_lexed : (schema : List Table) (text : List ℕ) (piece : Span) (stop : TextStop) → IsRefused piece.from (piece_text text piece) stop → StopsQuery schema text piece stop
-query_lexed schema text piece NoMemory refused = tt
-query_lexed schema text piece (Refused refusal) refused = reading.lexical refused
-
 pub query_parsed : (schema : List Table) (text : List ℕ) (piece : Span) (tokens : List Token) (stop : TextStop) →
     Spells piece.from (piece_text text piece) tokens → IsRefusedQuery tokens stop → StopsQuery schema text piece stop
 query_parsed schema text piece tokens NoMemory spelled refused = tt

@@ -14,8 +14,8 @@ use std::alloc::Global;
 
 /// The schema that a text of at most 1,048,576 bytes declares.
 ///
-/// `Refused` with the first of: a lexical fault, too many open parentheses, tokens that are no schema, and the first
-/// rule that fails in binding. `NoMemory` where memory ran out.
+/// `Refused` with the first of: a lexical fault, too many open parentheses, tokens that are no
+/// schema, and the first rule that fails in binding. `NoMemory` where memory ran out.
 pub fn read_schema(alloc: Global, text: &[u8]) -> Result<Schema, TextStop>
     requires { length text.now ≤ 1048576 }
     ensures read { IfOk result (λ schema. ReadsSchema text.now schema) }
@@ -30,11 +30,13 @@ pub fn read_schema(alloc: Global, text: &[u8]) -> Result<Schema, TextStop>
     bind_schema(alloc, trees.as_slice())
 }
 
-/// The query that a piece of a text of at most 1,048,576 bytes is, bound against the schema, which it fits. Nothing
-/// outside of the piece matters but where it begins: places are byte offsets in the whole text.
+/// The query that a piece of a text of at most 1,048,576 bytes is, bound against the schema, which
+/// it fits. Nothing outside of the piece matters but where it begins: places are byte offsets in
+/// the whole text.
 ///
-/// `Refused` with the first of: a lexical fault, too many tokens, too many open parentheses, tokens that are no query,
-/// and the first rule that fails in binding. `NoMemory` where memory ran out.
+/// `Refused` with the first of: a lexical fault, too many tokens, too many open parentheses,
+/// tokens that are no query, and the first rule that fails in binding. `NoMemory` where memory ran
+/// out.
 pub fn read_query(
     alloc: Global,
     schema: &Schema,

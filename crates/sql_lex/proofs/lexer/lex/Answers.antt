@@ -1,6 +1,6 @@
 use Rattle.std.proofs.Common.{◌≡◌, ◌≤◌, ◌-◌, length, slice_range, List, ℕ, sym, subst, ◌∙◌, arith}
 use Rattle.std.proofs.lemmas.List.{take_rest, length-drop, length-take}
-use Rattle.sql_lex.specs.declared.lex_found.Found.TheVariants.{Lexeme, Flaw}
+use Rattle.sql_lex.specs.declared.found.Found.TheVariants.{Lexeme, Flaw}
 use Rattle.sql_lex.proofs.LexScan.{Reads, nonempty, empty, front_found, scan_more, scan_ends, scan_stops}
 use Rattle.sql_lex.proofs.LexFew.{part_tokens_are_few}
 use Rattle.sql_lex.proofs.lexer.lex.Goals as goal

@@ -1,5 +1,5 @@
 use Rattle.std.proofs.Common.{rules, of_calls}
-use Rattle.sql_parse.specs.reading.Items.{read_item}
+use Rattle.sql_parse.specs.inner.readers.Items.{read_item}
 use Rattle.sql_parse.proofs.Separated.{gives_shorter}
 use Rattle.sql_parse.proofs.Shorter.{item_shorter}
 use Rattle.sql_parse.proofs.items.listed_items.Goals as goal

@@ -1,6 +1,6 @@
 use Rattle.std.proofs.Common.{◌<◌, length, sym, subst, ◌∙◌, arith, Ok, Err}
 use Rattle.std.proofs.lemmas.Result.{err_from_is_err_and}
-use Rattle.sql_parse.specs.reading.Gives.{Stops, is_mark}
+use Rattle.sql_parse.specs.inner.readers.Gives.{Stops, is_mark}
 use Rattle.sql_parse.proofs.Separated.{gathered_start, gathered_step, gathered_end, stops_later}
 use Rattle.sql_parse.proofs.Shorter.{expect_shorter}
 use Rattle.sql_parse.proofs.lists.separated.Goals as goal

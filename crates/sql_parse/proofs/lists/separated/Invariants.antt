@@ -1,8 +1,8 @@
 use Rattle.std.proofs.Common.{◌≡◌, List, length}
 use Rattle.sql_lex.specs.declared.token.Token.{Token}
-use Rattle.sql_parse.specs.reading.Tokens.{Read, read_separated}
-use Rattle.sql_parse.specs.reading.Gives.{is_mark}
-use Rattle.sql_parse.specs.reading.Separated.{Shorter, AlwaysGives}
+use Rattle.sql_parse.specs.inner.readers.Tokens.{Read, read_separated}
+use Rattle.sql_parse.specs.inner.readers.Gives.{is_mark}
+use Rattle.sql_parse.specs.inner.readers.Separated.{Shorter, AlwaysGives}
 use Rattle.sql_parse.proofs.Separated.{gathered}
 use Rattle.sql_parse.proofs.lists.separated.Given as goal
 

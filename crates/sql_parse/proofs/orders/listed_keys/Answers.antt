@@ -1,5 +1,5 @@
 use Rattle.std.proofs.Common.{rules, of_calls}
-use Rattle.sql_parse.specs.reading.Queries.{read_key}
+use Rattle.sql_parse.specs.inner.readers.Queries.{read_key}
 use Rattle.sql_parse.proofs.Separated.{gives_shorter}
 use Rattle.sql_parse.proofs.Shorter.{key_shorter}
 use Rattle.sql_parse.proofs.orders.listed_keys.Goals as goal

@@ -1,5 +1,5 @@
 use Rattle.std.proofs.Common.{rules, of_calls}
-use Rattle.sql_parse.specs.reading.Terms.{read_value}
+use Rattle.sql_parse.specs.inner.readers.Terms.{read_value}
 use Rattle.sql_parse.proofs.Separated.{gives_shorter}
 use Rattle.sql_parse.proofs.Shorter.{value_shorter}
 use Rattle.sql_parse.proofs.predicates.listed_values.Goals as goal

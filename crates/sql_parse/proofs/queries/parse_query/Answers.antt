@@ -1,6 +1,6 @@
 use Rattle.std.proofs.Common.{Err, refl, sym, subst}
-use Rattle.sql_parse.specs.reading.Leaves.{GivesWhole}
-use Rattle.sql_parse.specs.reading.Queries.{query_of}
+use Rattle.sql_parse.specs.inner.readers.Leaves.{GivesWhole}
+use Rattle.sql_parse.specs.inner.readers.Queries.{query_of}
 use Rattle.sql_parse.proofs.QueryAnswers.{is_query, no_query, deep_query}
 use Rattle.sql_parse.proofs.queries.parse_query.Goals as goal
 

@@ -1,7 +1,7 @@
 use Rattle.std.proofs.Common.{Err, sym, subst, ◌∙◌}
 use Rattle.sql_parse.specs.Refusals.{IsSchema}
-use Rattle.sql_parse.specs.reading.Leaves.{GivesWhole}
-use Rattle.sql_parse.specs.reading.Schemas.{schema_of}
+use Rattle.sql_parse.specs.inner.readers.Leaves.{GivesWhole}
+use Rattle.sql_parse.specs.inner.readers.Schemas.{schema_of}
 use Rattle.sql_parse.proofs.SchemaAnswers.{is_schema, no_schema, deep_schema}
 use Rattle.sql_parse.proofs.schemas.parse_schema.Goals as goal
 

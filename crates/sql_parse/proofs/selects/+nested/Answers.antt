@@ -1,7 +1,7 @@
 use Rattle.std.proofs.Common.{sym}
 use Rattle.sql_parse.specs.grammar.Words.{AND, OR}
-use Rattle.sql_parse.specs.reading.Tokens.{is_word}
-use Rattle.sql_parse.specs.reading.Selects.{read_cond, read_factor, read_subquery}
+use Rattle.sql_parse.specs.inner.readers.Tokens.{is_word}
+use Rattle.sql_parse.specs.inner.readers.Selects.{read_cond, read_factor, read_subquery}
 use Rattle.sql_parse.proofs.Separated.{gathered_smaller}
 use Rattle.sql_parse.proofs.Shorter.{factor_shorter, conjunction_shorter, join_shorter}
 use Rattle.sql_parse.proofs.Groups.{groups_smaller}

@@ -1,7 +1,7 @@
 use Rattle.std.proofs.Common.{◌≡◌, ◌+◌, ◌*◌, length}
-use Rattle.sql_parse.specs.reading.Tokens.{is_word, read_separated}
+use Rattle.sql_parse.specs.inner.readers.Tokens.{is_word, read_separated}
 use Rattle.sql_parse.specs.grammar.Words.{AND, OR}
-use Rattle.sql_parse.specs.reading.Selects.{read_cond, read_conjunction, read_factor, read_group, read_groups}
+use Rattle.sql_parse.specs.inner.readers.Selects.{read_cond, read_conjunction, read_factor, read_group, read_groups}
 use Rattle.sql_parse.proofs.Separated.{gathered}
 use Rattle.sql_parse.proofs.Groups.{with_joins, with_groups}
 use Rattle.sql_parse.proofs.selects.+nested.Given as goal

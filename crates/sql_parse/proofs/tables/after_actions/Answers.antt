@@ -1,8 +1,8 @@
 use Rattle.std.proofs.Common.{◌≡◌, false, true, [], sym, ◌∙◌}
 use Rattle.std.proofs.lemmas.Result.{err_from_is_err_and}
 use Rattle.sql_parse.specs.grammar.Words.{ON}
-use Rattle.sql_parse.specs.reading.Tokens.{found, is_word, at_head}
-use Rattle.sql_parse.specs.reading.Tables.{read_event}
+use Rattle.sql_parse.specs.inner.readers.Tokens.{found, is_word, at_head}
+use Rattle.sql_parse.specs.inner.readers.Tables.{read_event}
 use Rattle.sql_parse.proofs.Shorter.{event_below, event_shorter}
 use Rattle.sql_parse.proofs.Collected.{goes_on, stops, ends, stops_whole}
 use Rattle.sql_parse.proofs.tables.after_actions.Goals as goal

@@ -1,7 +1,7 @@
 use Rattle.std.proofs.Common.{◌≡◌, [], false, length}
 use Rattle.sql_parse.specs.grammar.Words.{ON}
-use Rattle.sql_parse.specs.reading.Tokens.{found, is_word, at_head}
-use Rattle.sql_parse.specs.reading.Tables.{read_event, read_actions}
+use Rattle.sql_parse.specs.inner.readers.Tokens.{found, is_word, at_head}
+use Rattle.sql_parse.specs.inner.readers.Tables.{read_event, read_actions}
 use Rattle.sql_parse.proofs.Collected.{from_here}
 use Rattle.sql_parse.proofs.tables.after_actions.Given as goal
 

@@ -1,5 +1,5 @@
 use Rattle.std.proofs.Common.{sym, subst, ◌∙◌}
-use Rattle.sql_parse.specs.reading.Leaves.{GivesAlone}
+use Rattle.sql_parse.specs.inner.readers.Leaves.{GivesAlone}
 use Rattle.sql_parse.proofs.Rules.{word_leads}
 use Rattle.sql_parse.proofs.tables.column_rule.Goals as goal
 

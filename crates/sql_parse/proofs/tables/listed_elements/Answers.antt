@@ -1,5 +1,5 @@
 use Rattle.std.proofs.Common.{rules, of_calls}
-use Rattle.sql_parse.specs.reading.Tables.{read_element}
+use Rattle.sql_parse.specs.inner.readers.Tables.{read_element}
 use Rattle.sql_parse.proofs.Separated.{gives_shorter}
 use Rattle.sql_parse.proofs.Shorter.{element_shorter}
 use Rattle.sql_parse.proofs.tables.listed_elements.Goals as goal

@@ -1,8 +1,8 @@
 use Rattle.std.proofs.Common.{◌≡◌, false, true, length, sym, ◌∙◌}
 use Rattle.std.proofs.lemmas.Result.{err_from_is_err_and}
-use Rattle.sql_parse.specs.reading.Tokens.{found, at_head}
-use Rattle.sql_parse.specs.reading.Leaves.{alone}
-use Rattle.sql_parse.specs.reading.Tables.{begins_rule, read_named_rule, read_rules}
+use Rattle.sql_parse.specs.inner.readers.Tokens.{found, at_head}
+use Rattle.sql_parse.specs.inner.readers.Leaves.{alone}
+use Rattle.sql_parse.specs.inner.readers.Tables.{begins_rule, read_named_rule, read_rules}
 use Rattle.sql_parse.proofs.Shorter.{named_rule_below, named_rule_shorter}
 use Rattle.sql_parse.proofs.Collected.{collected_start, collected_step, stops, ends, stops_whole}
 use Rattle.sql_parse.proofs.tables.rules.Goals as goal

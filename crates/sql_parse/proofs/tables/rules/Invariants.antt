@@ -1,6 +1,6 @@
 use Rattle.std.proofs.Common.{◌≡◌, length}
-use Rattle.sql_parse.specs.reading.Tokens.{at_head}
-use Rattle.sql_parse.specs.reading.Tables.{begins_rule, read_named_rule, read_rules}
+use Rattle.sql_parse.specs.inner.readers.Tokens.{at_head}
+use Rattle.sql_parse.specs.inner.readers.Tables.{begins_rule, read_named_rule, read_rules}
 use Rattle.sql_parse.proofs.Collected.{collected}
 use Rattle.sql_parse.proofs.tables.rules.Given as goal
 

@@ -1,5 +1,5 @@
 use Rattle.std.proofs.Common.{rules, of_calls}
-use Rattle.sql_parse.specs.reading.Terms.{read_name}
+use Rattle.sql_parse.specs.inner.readers.Terms.{read_name}
 use Rattle.sql_parse.proofs.Separated.{gives_shorter}
 use Rattle.sql_parse.proofs.Shorter.{name_shorter}
 use Rattle.sql_parse.proofs.terms.listed_names.Goals as goal

@@ -3,8 +3,8 @@ use Rattle.std.proofs.lemmas.List.{take_rest}
 use Rattle.sql_lex.specs.declared.classes.Class.{Class as CodeClass}
 use Rattle.sql_lex.specs.Classes.{Nothing, classes}
 use Rattle.sql_lex.specs.Rest.{rest}
-use Rattle.sql_lex.specs.Runs.{to_come, after_run}
-use Rattle.sql_lex.specs.Seen.{class_seen}
+use Rattle.sql_lex.specs.inner.Runs.{to_come, after_run}
+use Rattle.sql_lex.specs.inner.Seen.{class_seen}
 use Rattle.sql_lex.proofs.PartLemmas.{last_piece, separated_piece, first_progress}
 use Rattle.sql_lex.proofs.RunLemmas.{run_left}
 use Rattle.sql_lex.proofs.pieces.PiecesIterator.next.Goals as goal

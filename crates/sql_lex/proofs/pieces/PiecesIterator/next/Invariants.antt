@@ -1,6 +1,6 @@
 use Rattle.std.proofs.Common.{◌≡◌, length, None}
 use Rattle.sql_lex.specs.Classes.{Nothing, classes}
-use Rattle.sql_lex.specs.Runs.{to_come}
+use Rattle.sql_lex.specs.inner.Runs.{to_come}
 use Rattle.sql_lex.proofs.pieces.PiecesIterator.next.Given as goal
 
 -- what was to come at the call still is

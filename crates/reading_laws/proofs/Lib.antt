@@ -1,0 +1,9 @@
+pub mod GrammarBegins
+pub mod GrammarExamples
+pub mod GrammarRefused
+pub mod LexAgain
+pub mod LexFaults
+pub mod LexSteps
+pub mod OneTree
+pub mod Parsed
+pub mod Readings
