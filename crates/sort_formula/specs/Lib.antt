@@ -7,12 +7,14 @@ pub mod Standing
 pub mod Nodes
 pub mod Sides
 pub mod Translation
+pub mod Cells
 pub mod Axioms
 pub mod Facts
 pub mod Rings
 pub mod Chains
 pub mod Certificate
 pub mod Counters
+pub mod CounterPoints
 pub mod Loose
 pub mod Standpoint
 pub mod Rows

@@ -14,6 +14,7 @@
 //! memory, since no clause can say when memory ends: the cases of `worked_cases` show that formulas are made.
 #![tactic(auto)]
 
+mod building;
 mod copies;
 mod fits;
 mod formula;
@@ -22,6 +23,7 @@ mod outside;
 mod placing;
 mod sentence;
 
+pub use building::{Cell, exist_rows, exists, for_all, for_all_rows};
 pub use formula::{Atom, Formula, Side};
 pub use negation::negate;
 pub use placing::place;
