@@ -7,3 +7,6 @@ pub mod Linked
 pub mod RingSums
 pub mod RingEdges
 pub mod StepsRealized
+pub mod InLevels
+pub mod LeadRows
+pub mod LeadPoints

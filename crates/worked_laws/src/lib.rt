@@ -5,8 +5,8 @@
 //! `worked_refuting` the questions. `worked_schemas` and `worked_checks` list schemas that are accepted and some that are
 //! not (`SchemaExamples`), `worked_fitting`, `worked_subqueries` and `worked_databases` queries and databases that fit and
 //! some that do not, and `worked_first_forms` queries of the first form and others (`FitExamples`). `worked_formulas`,
-//! `worked_rewritings`, `worked_sentences` and `worked_steps` show formulas, sentences and certificates
-//! (`FormulaExamples`).
+//! `worked_rewritings`, `worked_sentences`, `worked_counters` and `worked_steps` show formulas, sentences, counter sentences
+//! and certificates (`FormulaExamples`).
 #![tactic(auto)]
 
 mod fits;
@@ -18,6 +18,8 @@ pub use fits::{
     worked_checks, worked_databases, worked_first_forms, worked_fitting, worked_schemas,
     worked_subqueries,
 };
-pub use formulas::{worked_formulas, worked_rewritings, worked_sentences, worked_steps};
+pub use formulas::{
+    worked_counters, worked_formulas, worked_rewritings, worked_sentences, worked_steps,
+};
 pub use meaning::{worked_constraints, worked_truths};
 pub use questions::{worked_asking, worked_refuting};
