@@ -12,7 +12,8 @@ use Rattle.sort_formula.specs.declared.formula.Formula.{Formula, fold_out-Formul
 use Rattle.sort_formula.specs.declared.formula.Formula.TheVariants as f
 use Rattle.sort_formula.specs.declared.formula.Formula.TheOpen.{Formula-F}
 use Rattle.sort_formula.specs.declared.formula.Side.TheVariants as side
-use Rattle.sort_formula.specs.Axioms.{different_cells, equal_cells, foreign_sentence, is_text_column, key_axiom, key_column, pair_equal}
+use Rattle.sort_formula.specs.Axioms.{foreign_sentence, is_text_column, key_axiom, key_column, pair_equal}
+use Rattle.sort_formula.specs.Cells.{equal_cells, different_cells}
 use Rattle.sort_formula.specs.Sentences.{Meaning, layer_is, atom_is_bound, is_bound, is_sentence}
 
 -- ---- when a formula of each kind is bound, by its parts

@@ -10,10 +10,10 @@ ghost use Rattle.sort_formula.specs.Bounds.{is_within};
 ghost use Rattle.truth_formula.specs.Scopes.{CanStand};
 
 use crate::axiom::Axiom;
-use crate::sentences::{for_all, plain};
+use crate::sentences::plain;
 use lint_base::{Items, NoMemory};
 use lint_core::{Cond, Schema};
-use sort_formula::{Formula, negate};
+use sort_formula::{Formula, for_all, negate};
 use std::alloc::Global;
 use truth_formula::{Scope, is_false};
 use truth_laws::formulas_fit;

@@ -9,8 +9,8 @@
 #![tactic(auto)]
 
 mod axiom;
-mod comparing;
 mod condition;
+mod kinds;
 mod listing;
 mod reference;
 mod sentences;

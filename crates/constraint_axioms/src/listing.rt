@@ -4,6 +4,8 @@ ghost use Rattle.std.specs.List.{list_all};
 ghost use Rattle.lint_core.specs.Fits.{check_fits};
 ghost use Rattle.lint_core.specs.Schema.{is_table};
 ghost use Rattle.sort_formula.specs.Axioms.{axioms, check_axiom, foreign_axioms, key_axiom, not_null_axioms, table_axioms};
+ghost use Rattle.sort_formula.specs.Sentences.{formula_fits};
+ghost use Rattle.constraint_axioms.specs.declared.axiom.Axiom.{Axiom as Made};
 ghost use Rattle.constraint_axioms.specs.Spoken.{spoken};
 
 use crate::axiom::Axiom;
@@ -13,6 +15,7 @@ use crate::uniqueness::{key_axiom, not_null_axiom};
 use lint_base::NoMemory;
 use lint_core::{KeyName, Schema, Table};
 use std::alloc::Global;
+use truth_laws::axioms_fit;
 
 fn push_not_nulls(
     alloc: Global,
@@ -96,10 +99,7 @@ fn push_table(
     push_foreign_keys(alloc, axioms, number, table)
 }
 
-/// The constraints of the schema as sentences, which hold together exactly in the databases that meet it: table by
-/// table, the NOT NULL columns, the keys, the CHECKs and the foreign keys, each in order (ISO/IEC 9075:1992, 4.10).
-/// `NoMemory` where there is no memory for them.
-pub fn axioms(alloc: Global, schema: &Schema) -> Result<Vec<Axiom>, NoMemory>
+fn all_axioms(alloc: Global, schema: &Schema) -> Result<Vec<Axiom>, NoMemory>
     ensures { IfOk result (λ list. map spoken list.items ≡ axioms schema.now) }
 {
     let mut axioms = Vec::new(alloc);
@@ -107,4 +107,15 @@ pub fn axioms(alloc: Global, schema: &Schema) -> Result<Vec<Axiom>, NoMemory>
         push_table(alloc, &mut axioms, schema, number as u32, table)?;
     }
     Ok(axioms)
+}
+
+/// The constraints of the schema as sentences, which hold together exactly in the databases that meet it: table by
+/// table, the NOT NULL columns, the keys, the CHECKs and the foreign keys, each in order (ISO/IEC 9075:1992, 4.10). Each
+/// fits the schema. `NoMemory` where there is no memory for them.
+pub fn axioms(alloc: Global, schema: &Schema) -> Result<Vec<Axiom>, NoMemory>
+    ensures listed { IfOk result (λ list. map spoken list.items ≡ axioms schema.now) }
+    ensures fits { IfOk result (λ list. list_all (λ (a : Made). formula_fits schema.now a.sentence []) list.items ≡ true) }
+{
+    axioms_fit();
+    all_axioms(alloc, schema)
 }

@@ -7,11 +7,11 @@ ghost use Rattle.sort_formula.specs.declared.formula.Formula.TheVariants as f;
 ghost use Rattle.constraint_axioms.specs.Spoken.{spoken};
 
 use crate::axiom::Axiom;
-use crate::comparing::{Cell, holds_texts};
-use crate::sentences::{exists, for_all, sentence_of};
+use crate::kinds::holds_texts;
+use crate::sentences::sentence_of;
 use lint_base::{Items, NoMemory};
 use lint_core::{ForeignKey, KeyName, Table};
-use sort_formula::Formula;
+use sort_formula::{Cell, Formula, exists, for_all};
 use std::alloc::Global;
 
 fn push_nulls(ways: &mut Items<Formula>, columns: &[u32]) -> Result<(), NoMemory>

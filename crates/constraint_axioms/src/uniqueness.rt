@@ -7,11 +7,11 @@ ghost use Rattle.sort_formula.specs.declared.formula.Formula.TheVariants as f;
 ghost use Rattle.constraint_axioms.specs.Spoken.{spoken};
 
 use crate::axiom::Axiom;
-use crate::comparing::{Cell, holds_texts};
-use crate::sentences::{for_all, plain};
+use crate::kinds::holds_texts;
+use crate::sentences::plain;
 use lint_base::{Items, NoMemory};
 use lint_core::{Key, Table};
-use sort_formula::{Atom, Formula};
+use sort_formula::{Atom, Cell, Formula, for_all};
 use std::alloc::Global;
 
 /// No row of the table has a NULL in the column.
@@ -23,7 +23,7 @@ pub(crate) fn not_null_axiom(
 ) -> Result<Axiom, NoMemory>
     ensures { IfOk result (λ stated. spoken stated ≡ not_null_axiom [] number table.now column) }
 {
-    let filled = Formula::Atom(Atom::NotNull { row: 0, column });
+    let filled = Cell { row: 0, column }.not_null();
     Ok(plain(for_all(alloc, number, filled)?))
 }
 

@@ -9,3 +9,6 @@ pub mod RingEdges
 pub mod StepsRealized
 pub mod Composing
 pub mod WrongSteps
+pub mod InLevels
+pub mod LeadRows
+pub mod LeadPoints

@@ -22,7 +22,8 @@ use Rattle.lint_core.specs.declared.schema.Column.{Column}
 use Rattle.lint_core.specs.declared.schema.Domain.{Domain}
 use Rattle.lint_core.specs.declared.schema.Domain.TheVariants.{Number, Text}
 use Rattle.lint_core.specs.declared.schema.Table.{Table}
-use Rattle.sort_formula.specs.Axioms.{le, axioms}
+use Rattle.sort_formula.specs.Axioms.{axioms}
+use Rattle.sort_formula.specs.Cells.{le}
 use Rattle.sort_formula.specs.Certificate.{branches_after, first_branch, accepts, are_closed}
 use Rattle.sort_formula.specs.Facts.{Fact, Branch, side_at, domain_at}
 use Rattle.sort_formula.specs.Rings.{bound_of, is_contradiction}

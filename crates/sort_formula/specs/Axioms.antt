@@ -1,6 +1,6 @@
 -- The constraints of a schema as sentences (ISO/IEC 9075:1992, 4.10): table by table NOT NULL, keys, CHECKs and
 -- foreign keys. A database of the domains meets the schema exactly where all of them hold.
-use Rattle.std.specs.Prelude.{ℕ, suc, ℤ, pos, neg_ℤ, Bool, List, [], ◌∷◌, ◌++◌, map, Option, Some, None, if◌then◌else◌}
+use Rattle.std.specs.Prelude.{ℕ, suc, Bool, List, [], ◌∷◌, ◌++◌, map, Option, Some, None, if◌then◌else◌}
 use Rattle.std.specs.List.{flat_map, zip}
 use Rattle.std.specs.Option.{option_map_or}
 use Rattle.lint_core.specs.declared.condition.Cond.{Cond}
@@ -10,11 +10,11 @@ use Rattle.lint_core.specs.declared.schema.Key.{Key}
 use Rattle.lint_core.specs.declared.schema.ForeignKey.{ForeignKey}
 use Rattle.lint_core.specs.declared.schema.Table.{Table}
 use Rattle.lint_core.specs.Kind.{column_kind, is_text}
-use Rattle.sort_formula.specs.declared.formula.Side.{Side}
 use Rattle.sort_formula.specs.declared.formula.Side.TheVariants as side
 use Rattle.sort_formula.specs.declared.formula.Atom.TheVariants as atom
 use Rattle.sort_formula.specs.declared.formula.Formula.{Formula}
 use Rattle.sort_formula.specs.declared.formula.Formula.TheVariants as f
+use Rattle.sort_formula.specs.Cells.{equal_cells, different_cells}
 use Rattle.sort_formula.specs.Negated.{negated}
 use Rattle.lint_core.specs.declared.scope.Scope.{Scope}
 use Rattle.sort_formula.specs.Translation.{is_false_formula}
@@ -26,17 +26,6 @@ pub record Axiom : Type 0 where
 
 abbrev pub plain : Formula → Axiom
 plain sentence = record { sentence = sentence; key = None }
-
-abbrev pub le : Side → Side → ℤ → Formula
-le left right most = f.Atom (atom.Le left right most)
-
--- the two cells are equal; a text cell beside a text cell, or a number cell beside one
-abbrev pub equal_cells : Bool → Side → Side → List Formula
-equal_cells text x y = if text then f.Atom (atom.TextEq x y) ∷ [] else f.And (le x y (pos 0) ∷ le y x (pos 0) ∷ []) ∷ []
-
--- the two cells differ, part by part
-abbrev pub different_cells : Bool → Side → Side → List Formula
-different_cells text x y = if text then f.Atom (atom.TextNe x y) ∷ [] else le x y (neg_ℤ (pos 1)) ∷ le y x (neg_ℤ (pos 1)) ∷ []
 
 abbrev pub is_text_column : Table → ℕ → Bool
 is_text_column table column = option_map_or is_text (column_kind table column) Bool.false

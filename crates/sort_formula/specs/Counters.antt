@@ -1,5 +1,6 @@
 -- The counter sentence of a question: it holds in a database exactly where some points refute the question (in
--- databases of the domains in which the scalar subqueries asked of before it give at most one row).
+-- databases of the domains in which the scalar subqueries asked of before it give at most one row). It is a lead,
+-- the tables of rows that are there, and a body, what must hold of these rows.
 use Rattle.std.specs.Prelude.{ℕ, ◌+◌, ◌-◌, ℤ, pos, neg_ℤ, ◌-ℤ◌, List, [], ◌∷◌, ◌++◌, length, map, slice_get, unwrap_or, if◌then◌else◌, insert, remove}
 use Rattle.std.specs.List.{filter, zip}
 use Rattle.std.specs.Option.{option_map_or}
@@ -22,11 +23,24 @@ use Rattle.sort_formula.specs.declared.formula.Side.TheVariants as side
 use Rattle.sort_formula.specs.declared.formula.Atom.TheVariants as atom
 use Rattle.sort_formula.specs.declared.formula.Formula.{Formula}
 use Rattle.sort_formula.specs.declared.formula.Formula.TheVariants as f
-use Rattle.sort_formula.specs.Axioms.{le, equal_cells}
+use Rattle.sort_formula.specs.Cells.{le, not_distinct_cells}
 use Rattle.sort_formula.specs.Negated.{negated}
 use Rattle.lint_core.specs.declared.scope.Scope.{Scope}
 use Rattle.sort_formula.specs.Sides.{nothing, from_number, all_of, scope_of, numbered_from, side_of, is_text_term, is_null_formula, not_null_formula}
 use Rattle.sort_formula.specs.Translation.{is_true_formula, exist_rows}
+
+-- the tables of the leading rows, in order, and what must hold of them
+pub record CounterParts : Type 0 where
+  pub lead : List ℕ
+  pub body : Formula
+
+-- some rows of the lead's tables satisfy the body
+abbrev pub sentence_of : CounterParts → Formula
+sentence_of parts = exist_rows parts.lead parts.body
+
+-- of a subquery that is not there
+abbrev pub no_counter : CounterParts
+no_counter = record { lead = []; body = nothing }
 
 -- all levels but the last, and the last one
 abbrev pub outer_levels : List (List ℕ) → List (List ℕ)
@@ -47,10 +61,8 @@ module _ (schema : List Table) where
   -- the two columns are not distinct: both NULL, or equal; by the scope of each
   abbrev pub not_distinct : Scope → Term → Scope → Term → Formula
   not_distinct scope a other b =
-      f.Or (
-      f.And (is_null_formula schema scope a ∷ is_null_formula schema other b ∷ [])
-      ∷ equal_cells (is_text_term schema scope a) (side_of schema scope a) (side_of schema other b)
-      )
+      not_distinct_cells (is_text_term schema scope a) (is_null_formula schema scope a) (is_null_formula schema other b)
+      (side_of schema scope a) (side_of schema other b)
 
   -- ---- E9: two rows of the subquery, in the same rows outside
 
@@ -73,20 +85,23 @@ module _ (schema : List Table) where
     abbrev pub deeper : Scope → Scope
     deeper scope = record { levels = scope.levels; tables = scope.tables; depth = second_scope.depth }
 
-    abbrev pub two_rows : Formula
-    two_rows =
-        exist_rows (all_of sub.tables ++ last_level sub.tables)
-        (f.And (
-        is_true_formula schema sub.cond (deeper first_scope)
-        ∷ is_true_formula schema sub.cond second_scope
-        ∷ some_other (last_level first_scope.levels) (last_level second_scope.levels) ∷ []
-        ))
+    abbrev pub two_rows : CounterParts
+    two_rows = record {
+      lead = all_of sub.tables ++ last_level sub.tables;
+      body =
+          f.And (
+          is_true_formula schema sub.cond (deeper first_scope)
+          ∷ is_true_formula schema sub.cond second_scope
+          ∷ some_other (last_level first_scope.levels) (last_level second_scope.levels) ∷ []
+          );
+    }
 
     -- E10: the subquery selects NULL
-    abbrev pub selects_null : Formula
-    selects_null =
-        exist_rows (all_of sub.tables)
-        (f.And (is_true_formula schema sub.cond first_scope ∷ is_null_formula schema first_scope sub.item ∷ []))
+    abbrev pub selects_null : CounterParts
+    selects_null = record {
+      lead = all_of sub.tables;
+      body = f.And (is_true_formula schema sub.cond first_scope ∷ is_null_formula schema first_scope sub.item ∷ []);
+    }
 
   module _ (query : Query) where
     abbrev pub own : List ℕ
@@ -98,9 +113,13 @@ module _ (schema : List Table) where
     abbrev pub where_formula : Formula
     where_formula = is_true_formula schema (main_condition query) scope
 
-    -- some rows of the entries make WHERE true, and more
-    abbrev pub exist_with : List Formula → Formula
-    exist_with more = exist_rows own (f.And (where_formula ∷ more))
+    -- one row of each entry, of which this must hold
+    abbrev pub of_own : Formula → CounterParts
+    of_own body = record { lead = own; body = body }
+
+    -- WHERE is true there, and more
+    abbrev pub where_with : List Formula → CounterParts
+    where_with more = of_own (f.And (where_formula ∷ more))
 
     abbrev pub item_term : ℕ → Term
     item_term item = option_map_or (λ (i : Item). i.term) (slice_get query.items item) term.Null
@@ -122,15 +141,17 @@ module _ (schema : List Table) where
     abbrev pub items_alike : List Formula
     items_alike = map (λ (i : Item). not_distinct one_scope i.term two_scope i.term) (filter (λ (i : Item). is_column i.term) query.items)
 
-    abbrev pub distinct_counter : Formula
-    distinct_counter =
-        exist_rows (own ++ own)
-        (f.And (
-        is_true_formula schema (main_condition query) one_scope
-        ∷ is_true_formula schema (main_condition query) two_scope
-        ∷ some_other (from_number 0 count) (from_number count count)
-        ∷ items_alike
-        ))
+    abbrev pub distinct_counter : CounterParts
+    distinct_counter = record {
+      lead = own ++ own;
+      body =
+          f.And (
+          is_true_formula schema (main_condition query) one_scope
+          ∷ is_true_formula schema (main_condition query) two_scope
+          ∷ some_other (from_number 0 count) (from_number count count)
+          ∷ items_alike
+          );
+    }
 
     -- ---- E3: the column has another value
 
@@ -142,10 +163,11 @@ module _ (schema : List Table) where
     abbrev pub differs_from_text : Term → List ℕ → Formula
     differs_from_text t text = f.Or (is_null_formula schema scope t ∷ f.Atom (atom.TextNe (side_of schema scope t) (side.Text text)) ∷ [])
 
-    abbrev pub constant_counter : Term → Value → Formula
-    constant_counter t value.Null = exist_with (not_null_formula schema scope t ∷ [])
-    constant_counter t (value.Int v) = if is_text_term schema scope t then exist_rows own where_formula else exist_with (differs_from_number t v ∷ [])
-    constant_counter t (value.Text text) = if is_text_term schema scope t then exist_with (differs_from_text t text ∷ []) else exist_rows own where_formula
+    -- WHERE is true, and the column differs from the value (from one of another kind it does)
+    abbrev pub differs_from : Term → Value → Formula
+    differs_from t value.Null = f.And (where_formula ∷ not_null_formula schema scope t ∷ [])
+    differs_from t (value.Int v) = if is_text_term schema scope t then where_formula else f.And (where_formula ∷ differs_from_number t v ∷ [])
+    differs_from t (value.Text text) = if is_text_term schema scope t then f.And (where_formula ∷ differs_from_text t text ∷ []) else where_formula
 
     -- ---- E5: no row of the entry fits, or two do
 
@@ -169,26 +191,30 @@ module _ (schema : List Table) where
           )
 
       -- (the conjuncts without the entry have no variable of it: 0 stands in)
-      abbrev pub join_counter : Formula
-      join_counter =
-          exist_rows (remove own entry)
-          (f.And (map (λ c. is_true_formula schema c (join_scope 0 (count - 1))) (conjuncts_without entry query) ++ none_or_two ∷ []))
+      abbrev pub join_counter : CounterParts
+      join_counter = record {
+        lead = remove own entry;
+        body = f.And (map (λ c. is_true_formula schema c (join_scope 0 (count - 1))) (conjuncts_without entry query) ++ none_or_two ∷ []);
+      }
 
     -- ---- E6 and E7: WHERE and WHERE with the predicate replaced are not true at the same rows
 
-    abbrev pub replaced_counter : Cond → Formula
+    abbrev pub replaced_counter : Cond → CounterParts
     replaced_counter replaced =
         let other = is_true_formula schema replaced scope in
-        exist_rows own (f.Or (f.And (where_formula ∷ negated other ∷ []) ∷ f.And (other ∷ negated where_formula ∷ []) ∷ []))
+        of_own (f.Or (f.And (where_formula ∷ negated other ∷ []) ∷ f.And (other ∷ negated where_formula ∷ []) ∷ []))
+
+    abbrev pub counter : Question → Value → CounterParts
+    counter (OneRow sub) given = option_map_or two_rows (slice_get (scalars_of query) sub) no_counter
+    counter Empty given = of_own where_formula
+    counter NeedlessDistinct given = distinct_counter
+    counter (Constant item) given = of_own (differs_from (item_term item) given)
+    counter (Duplicate item other) given = where_with (negated (not_distinct scope (item_term item) scope (item_term other)) ∷ [])
+    counter (NeedlessJoin entry) given = join_counter entry
+    counter (Implied predicate) given = replaced_counter (with_replaced cond.True predicate (main_condition query))
+    counter (Impossible predicate) given = replaced_counter (with_replaced cond.False predicate (main_condition query))
+    counter (SameRow entry other) given = where_with (f.Atom (atom.Other entry other) ∷ [])
+    counter (NullInNotIn sub) given = option_map_or selects_null (slice_get (not_ins_of query) sub) no_counter
 
     abbrev pub counter_sentence : Question → Value → Formula
-    counter_sentence (OneRow sub) given = option_map_or two_rows (slice_get (scalars_of query) sub) nothing
-    counter_sentence Empty given = exist_rows own where_formula
-    counter_sentence NeedlessDistinct given = distinct_counter
-    counter_sentence (Constant item) given = constant_counter (item_term item) given
-    counter_sentence (Duplicate item other) given = exist_with (negated (not_distinct scope (item_term item) scope (item_term other)) ∷ [])
-    counter_sentence (NeedlessJoin entry) given = join_counter entry
-    counter_sentence (Implied predicate) given = replaced_counter (with_replaced cond.True predicate (main_condition query))
-    counter_sentence (Impossible predicate) given = replaced_counter (with_replaced cond.False predicate (main_condition query))
-    counter_sentence (SameRow entry other) given = exist_with (f.Atom (atom.Other entry other) ∷ [])
-    counter_sentence (NullInNotIn sub) given = option_map_or selects_null (slice_get (not_ins_of query) sub) nothing
+    counter_sentence question given = sentence_of (counter question given)

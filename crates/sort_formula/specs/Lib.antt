@@ -7,6 +7,7 @@ pub mod inner
 pub mod Nodes
 pub mod Sides
 pub mod Translation
+pub mod Cells
 pub mod Axioms
 pub mod Facts
 pub mod Rings
@@ -14,6 +15,7 @@ pub mod Chains
 pub mod Certificate
 pub mod Realized
 pub mod Counters
+pub mod CounterPoints
 pub mod Loose
 pub mod Standpoint
 pub mod Rows

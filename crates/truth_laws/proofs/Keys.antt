@@ -14,7 +14,8 @@ use Rattle.sort_formula.specs.declared.formula.Side.TheVariants as side
 use Rattle.sort_formula.specs.declared.formula.Atom.TheVariants as atom
 use Rattle.sort_formula.specs.declared.formula.Formula.{Formula}
 use Rattle.sort_formula.specs.declared.formula.Formula.TheVariants as f
-use Rattle.sort_formula.specs.Axioms.{Axiom, key_column, key_axiom, different_cells, is_text_column}
+use Rattle.sort_formula.specs.Axioms.{Axiom, key_column, key_axiom, is_text_column}
+use Rattle.sort_formula.specs.Cells.{different_cells}
 use Rattle.sort_formula.specs.Holds.{holds}
 use Rattle.sort_formula.proofs.Holding.{holds_atom, holds_or, holds_forall}
 use Rattle.lint_base.proofs.Lists.{both_left, both_right, not_and}

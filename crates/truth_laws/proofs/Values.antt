@@ -25,7 +25,8 @@ use Rattle.lint_core.specs.Truth.{truth_of, is_true}
 use Rattle.sort_formula.specs.declared.formula.Side.{Side}
 use Rattle.sort_formula.specs.declared.formula.Side.TheVariants as side
 use Rattle.sort_formula.specs.declared.formula.Atom.TheVariants as atom
-use Rattle.sort_formula.specs.Axioms.{equal_cells, different_cells, is_text_column, le}
+use Rattle.sort_formula.specs.Axioms.{is_text_column}
+use Rattle.sort_formula.specs.Cells.{equal_cells, different_cells, le}
 use Rattle.sort_formula.specs.Holds.{holds, side_value, cell_value, differ_by_at_most, are_texts}
 use Rattle.sort_formula.specs.Rows.{tables_of_rows}
 use Rattle.sort_formula.specs.Sentences.{is_number_kind, kind_at}
@@ -94,7 +95,7 @@ is_other false (Text a) w left right = cc
 
 -- ---- kinds of columns
 
-abbrev kind_of_column : Option Column → Option Kind
+abbrev pub kind_of_column : Option Column → Option Kind
 kind_of_column column = option_and_then (λ (c : Column). Some (kind_of c.domain)) column
 
 by_domain : (schema : List Table) (d : Domain) (v : Value) →

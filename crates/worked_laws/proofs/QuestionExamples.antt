@@ -66,7 +66,7 @@ main_two other = (0 ∷ other ∷ []) ∷ []
 abbrev above : Cond
 above = c.Scalar Gt the_column (from_first c.True) inner_column nowhere
 
-the_scalar : scalars_of above_the_row ≡ record { tables = inside; cond = c.True; item = inner_column; place = nowhere } ∷ []
+pub the_scalar : scalars_of above_the_row ≡ record { tables = inside; cond = c.True; item = inner_column; place = nowhere } ∷ []
 the_scalar = rw (first_cond above, scalars_scalar main Gt the_column (from_first c.True) inner_column nowhere, first_cond c.True, scalars_true inside) refl
 
 no_not_in : not_ins_of above_the_row ≡ []
@@ -109,7 +109,7 @@ not_in_is_asked_last = rw (no_scalar, the_not_in, its_predicate, its_implied_ask
 
 -- the first table twice
 
-true_names_nothing : names 1 c.True ≡ false
+pub true_names_nothing : names 1 c.True ≡ false
 true_names_nothing =
     fold_out-Cond Bool Bool (names_step 1) (λ block. block.cond) c.True
     ∙ ap (λ layer. names_step 1 (map-Cond Cond Block Bool Bool (names 1) (fold-Block Bool Bool (names_step 1) (λ block. block.cond)) layer)) c.outs-True

@@ -1,5 +1,6 @@
 -- Sentences that a key and two texts refute, and the steps that do it, for the laws `worked_steps` and
--- `worked_wrong_steps`. A comparison and a schema, for the law `worked_sentences`.
+-- `worked_wrong_steps`. A comparison and a schema, for the law `worked_sentences`. A query of three entries, for the
+-- law `worked_counters`.
 use Rattle.std.specs.Prelude.{ℕ, ℤ, pos, neg_ℤ, false, List, [], ◌∷◌, None}
 use Rattle.lint_core.specs.declared.certificate.SumEdge.TheVariants as edge
 use Rattle.lint_core.specs.declared.certificate.TextEdge.TheVariants as text
@@ -8,10 +9,15 @@ use Rattle.lint_core.specs.declared.certificate.Step.TheVariants as step
 use Rattle.lint_core.specs.declared.schema.Domain.TheVariants.{Number, Text}
 use Rattle.lint_core.specs.declared.schema.Unit.TheVariants.{Whole}
 use Rattle.lint_core.specs.declared.schema.Table.{Table}
+use Rattle.lint_core.specs.declared.condition.Block.{roll-Block}
+use Rattle.lint_core.specs.declared.condition.Cond.TheVariants as c
+use Rattle.lint_core.specs.declared.condition.Entry.{Entry}
+use Rattle.lint_core.specs.declared.query.Query.{Query}
 use Rattle.sort_formula.specs.declared.formula.Side.TheVariants as side
 use Rattle.sort_formula.specs.declared.formula.Atom.TheVariants as atom
 use Rattle.sort_formula.specs.declared.formula.Formula.{Formula}
 use Rattle.sort_formula.specs.declared.formula.Formula.TheVariants as f
+use Rattle.worked_laws.specs.Examples.{nowhere, query, written}
 
 -- ---- a key
 
@@ -79,3 +85,16 @@ mixed = record {
   checks = [];
   foreign = [];
 } ∷ []
+
+-- ---- counter sentences
+
+-- three entries, of three tables
+abbrev pub middle_entries : List Entry
+middle_entries =
+    record { table = 0; name = []; span = nowhere }
+    ∷ record { table = 1; name = []; span = nowhere }
+    ∷ record { table = 2; name = []; span = nowhere } ∷ []
+
+-- `SELECT its column FROM the first table, the second table, the third table`
+abbrev pub middle : Query
+middle = query None written (roll-Block (record { entries = middle_entries; cond = c.True; span = nowhere }))

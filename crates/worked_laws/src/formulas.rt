@@ -3,16 +3,18 @@
 ghost use Rattle.std.specs.Prelude.{◌≡◌, pos, neg_ℤ, true, false, List, [], ◌∷◌, ◌++◌, take, Some, None};
 ghost use Rattle.lint_tables.specs.declared.op.Op.TheVariants.{Ne};
 ghost use Rattle.lint_core.specs.declared.condition.Cond.TheVariants.{Compare};
-ghost use Rattle.worked_laws.specs.Examples.{nowhere, number, the_column, plain, unique, select_distinct};
+ghost use Rattle.worked_laws.specs.Examples.{nowhere, number, the_column, plain, unique, select_distinct, above_the_row, rows};
+ghost use Rattle.lint_core.specs.declared.database.Points.TheVariants.{Two, Without};
 ghost use Rattle.lint_core.specs.declared.database.Value.TheVariants.{Null};
-ghost use Rattle.lint_core.specs.declared.query.Question.TheVariants.{NeedlessDistinct};
+ghost use Rattle.lint_core.specs.declared.query.Question.TheVariants.{OneRow, NeedlessDistinct, NeedlessJoin};
 ghost use Rattle.sort_formula.specs.declared.formula.Formula.TheVariants.{Atom as Fact, And, Or, Exists, Forall};
 ghost use Rattle.sort_formula.specs.declared.formula.Atom.TheVariants.{Le, IsNull, Same, Other};
 ghost use Rattle.sort_formula.specs.declared.formula.Side.TheVariants.{Cell, Zero};
 ghost use Rattle.sort_formula.specs.Axioms.{axioms};
 ghost use Rattle.sort_formula.specs.Certificate.{accepts, wrong_step};
-ghost use Rattle.sort_formula.specs.Counters.{counter_sentence};
-ghost use Rattle.worked_laws.specs.FormulaExamples.{two_rows_agree, refuted_by_key, texts, is_both, refuted_by_texts, at_most, mixed};
+ghost use Rattle.sort_formula.specs.CounterPoints.{points_of};
+ghost use Rattle.sort_formula.specs.Counters.{counter, counter_sentence};
+ghost use Rattle.worked_laws.specs.FormulaExamples.{two_rows_agree, refuted_by_key, texts, is_both, refuted_by_texts, at_most, mixed, middle};
 ghost use Rattle.sort_formula.specs.Negated.{negated};
 ghost use Rattle.sort_formula.specs.Placed.{placed};
 ghost use Rattle.sort_formula.specs.Sentences.{is_sentence, formula_fits};
@@ -35,6 +37,27 @@ pub fn worked_formulas()
         ≡ Exists 0 (Exists 0 (And (And [] ∷ And [] ∷ Or (Fact (Other 0 1) ∷ [])
         ∷ Or (And (Fact (IsNull 0 0) ∷ Fact (IsNull 1 0) ∷ [])
         ∷ And (Fact (Le (Cell 0 0) (Cell 1 0) (pos 0)) ∷ Fact (Le (Cell 1 0) (Cell 0 0) (pos 0)) ∷ []) ∷ []) ∷ []))) }
+{}
+
+/// A counter sentence is a lead and a body, and the places of the leading rows make points. Of a scalar subquery in a
+/// query there are two rows of its entry beside one of the query's; of DISTINCT two rows of each entry; of a needless
+/// join one row of each other entry, and none or two of the one in the middle.
+pub fn worked_counters()
+    ensures two_rows_inside { counter plain above_the_row (OneRow 0) Null
+        ≡ record { lead = 0 ∷ 0 ∷ 0 ∷ []; body = And (And [] ∷ And [] ∷ Or (Fact (Other 1 2) ∷ []) ∷ []) } }
+    ensures two_inside { points_of above_the_row (OneRow 0) (5 ∷ 6 ∷ 7 ∷ []) None
+        ≡ Two (rows ((5 ∷ []) ∷ (6 ∷ []) ∷ [])) (rows ((5 ∷ []) ∷ (7 ∷ []) ∷ [])) }
+    ensures two_of_the_entry { (counter plain select_distinct NeedlessDistinct Null).lead ≡ 0 ∷ 0 ∷ [] }
+    ensures two_apart { points_of select_distinct NeedlessDistinct (3 ∷ 4 ∷ []) None
+        ≡ Two (rows ((3 ∷ []) ∷ [])) (rows ((4 ∷ []) ∷ [])) }
+    ensures none_or_two { counter plain middle (NeedlessJoin 1) Null
+        ≡ record {
+          lead = 0 ∷ 2 ∷ [];
+          body = And (And [] ∷ Or (Forall 1 (Or []) ∷ Exists 1 (Exists 1 (And (And [] ∷ And [] ∷ Fact (Other 2 3) ∷ []))) ∷ []) ∷ []);
+        } }
+    ensures none_fits { points_of middle (NeedlessJoin 1) (4 ∷ 6 ∷ []) None ≡ Without (rows ((4 ∷ 6 ∷ []) ∷ [])) }
+    ensures two_fit { points_of middle (NeedlessJoin 1) (4 ∷ 6 ∷ []) (Some (8, 9))
+        ≡ Two (rows ((4 ∷ 8 ∷ 6 ∷ []) ∷ [])) (rows ((4 ∷ 9 ∷ 6 ∷ []) ∷ [])) }
 {}
 
 /// Steps that name the right facts are accepted; not so where one names another fact, where some are left out, or

@@ -5,8 +5,8 @@
 //! `worked_refuting` the questions. `worked_schemas` and `worked_checks` list schemas that are accepted and some that are
 //! not (`SchemaExamples`), `worked_fitting`, `worked_subqueries` and `worked_databases` queries and databases that fit and
 //! some that do not, and `worked_first_forms` queries of the first form and others (`FitExamples`). `worked_formulas`,
-//! `worked_rewritings`, `worked_sentences`, `worked_steps` and `worked_wrong_steps` show formulas,
-//! sentences and certificates (`FormulaExamples`).
+//! `worked_rewritings`, `worked_sentences`, `worked_counters`, `worked_steps` and `worked_wrong_steps` show formulas,
+//! sentences, counter sentences and certificates (`FormulaExamples`).
 #![tactic(auto)]
 
 mod fits;
@@ -19,7 +19,8 @@ pub use fits::{
     worked_subqueries,
 };
 pub use formulas::{
-    worked_formulas, worked_rewritings, worked_sentences, worked_steps, worked_wrong_steps,
+    worked_counters, worked_formulas, worked_rewritings, worked_sentences, worked_steps,
+    worked_wrong_steps,
 };
 pub use meaning::{worked_constraints, worked_truths};
 pub use questions::{worked_asking, worked_refuting};
