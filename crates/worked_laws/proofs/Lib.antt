@@ -2,3 +2,4 @@ pub mod FitParts
 pub mod Examples
 pub mod QuestionExamples
 pub mod Translated
+pub mod UnaskedExample
