@@ -1,9 +1,9 @@
 -- What a question that holds always says in the subject's own words: E2, E5 and those that ask of bindings.
 use Rattle.std.proofs.Common.{◌≡◌, ◌∙◌, refl, sym, ap, subst, ℕ, Bool, true, false, not, ◌&&◌, ◌||◌, List, [], ◌∷◌, map, length}
 use Rattle.std.proofs.lemmas.Bool.{and_from, false_from_ne_true}
-use Rattle.std.specs.List.{list_all, list_any}
+use Rattle.std.specs.List.{list_any}
 use Rattle.std.specs.Option.{option_map_or}
-use Rattle.std.specs.Prelude.{Ok, Err, Option, Some, None, slice_get, is_some, if◌then◌else◌}
+use Rattle.std.specs.Prelude.{Ok, Err, Option, Some, slice_get, is_some, if◌then◌else◌}
 use Rattle.lint_base.proofs.Lists.{any_map}
 use Rattle.lint_core.specs.declared.database.Binding.{Binding}
 use Rattle.lint_core.specs.declared.database.Database.{Database}
@@ -12,16 +12,14 @@ use Rattle.lint_core.specs.declared.database.Truth.TheVariants as t
 use Rattle.lint_core.specs.declared.database.Value.{Value}
 use Rattle.lint_core.specs.declared.database.Value.TheVariants.{Null}
 use Rattle.lint_core.specs.declared.query.Query.{Query}
-use Rattle.lint_core.specs.declared.query.Question.{Question}
 use Rattle.lint_core.specs.declared.query.Question.TheVariants.{OneRow, NeedlessDistinct, NeedlessJoin, SameRow, NullInNotIn}
-use Rattle.lint_core.specs.declared.schema.Table.{Table}
-use Rattle.lint_core.specs.Asked.{is_asked, scalars_of, not_ins_of, conjuncts_with, conjuncts_without}
+use Rattle.lint_core.specs.Asked.{scalars_of, not_ins_of, conjuncts_with, conjuncts_without}
 use Rattle.lint_core.specs.Comparison.{is_null}
 use Rattle.lint_core.specs.Condition.{truth, term_value}
 use Rattle.lint_core.specs.Database.{rows_of, below}
 use Rattle.lint_core.specs.Evaluation.{Evaluated, map_ok, all_ok, all_hold}
 use Rattle.lint_core.specs.Points.{is_binding, is_same_row, differ_in_entry}
-use Rattle.lint_core.specs.Question.{HoldsIn, EarlierHold, all_true, are_true_with, is_binding_without, is_known_true, is_main_binding, outcome, table_of, where_is_true, where_truth}
+use Rattle.lint_core.specs.Question.{HoldsIn, all_true, are_true_with, is_binding_without, is_known_true, is_main_binding, outcome, table_of, where_is_true, where_truth}
 use Rattle.lint_core.specs.QueryAnswer.{answer, one_of_each}
 use Rattle.lint_core.specs.Subqueries.{Subquery}
 use Rattle.question_truths.specs.AtMostOne.{GivesAtMostOneRow}
@@ -63,7 +61,7 @@ module _ (db : Database) (query : Query) (given : Value) where
 
 -- ---- E5
 
-or_later : (b c d : Bool) → (c ≡ true → d ≡ true) → (b || c) ≡ true → (b || d) ≡ true
+pub or_later : (b c d : Bool) → (c ≡ true → d ≡ true) → (b || c) ≡ true → (b || d) ≡ true
 or_later true c d leads some = refl
 or_later false c d leads some = leads some
 
@@ -80,7 +78,7 @@ any_known (Ok fact ∷ facts) known all some = at_rest (any_known facts) (all_ok
         or_later fact (list_any (λ fact. fact) later) (list_any is_known_true facts) (leads later is) (subst (λ k. list_any (λ fact. fact) k ≡ true) (sym same) some)
     at_rest leads (Err place) is made = cc
 
-abbrev none_of : List (Evaluated Bool) → Evaluated Bool
+abbrev pub none_of : List (Evaluated Bool) → Evaluated Bool
 none_of facts = map_ok (λ fit. not (list_any (λ fits. fits) fit)) (all_ok facts)
 
 -- where it is decided that not both the others fit and no row does, and the others fit, some row does

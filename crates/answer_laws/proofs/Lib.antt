@@ -11,3 +11,4 @@ pub mod OneRow
 pub mod Fewer
 pub mod Replaced
 pub mod HoldsAlways
+pub mod HoldsBack

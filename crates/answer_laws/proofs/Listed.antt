@@ -1,9 +1,9 @@
 -- What stands in a list, and lists in which nothing stands twice.
-use Rattle.std.proofs.Common.{◌≡◌, ◌≢◌, ◌∙◌, ◌⊎◌, inl, inr, refl, sym, ap, subst, Bool, true, false, List, [], ◌∷◌, ◌++◌, map, length, arith, ◌≤◌}
+use Rattle.std.proofs.Common.{◌≡◌, ◌≢◌, ◌∙◌, ◌⊎◌, inl, inr, refl, sym, ap, Bool, true, false, List, [], ◌∷◌, ◌++◌, map, length, arith, ◌≤◌}
 use Rattle.std.specs.Prelude.{◌↔◌, ⊤, cond}
 use Rattle.std.proofs.lemmas.Bool.{and_parts, and_from}
 use Rattle.std.specs.List.{filter, flat_map, list_all}
-use Rattle.meaning_laws.proofs.Members.{Stands, stands_front, stands_behind, stands_map, stands_flat_map, stands_filter}
+use Rattle.meaning_laws.proofs.Members.{Stands, stands_map}
 
 -- nothing stands twice
 abbrev pub AllDiffer : {A : Type 0} → List A → Type 0

@@ -1,17 +1,10 @@
 -- What DISTINCT leaves of a list of rows.
 use Rattle.std.proofs.Common.{◌≡◌, ◌≢◌, ◌∙◌, ◌≤◌, inl, inr, refl, sym, ap, subst, suc, Bool, true, false, not, List, [], ◌∷◌, length, arith}
-use Rattle.std.proofs.lemmas.Bool.{and_parts, and_from, false_from_ne_true, or_cases, or_left, or_right}
-use Rattle.std.proofs.lemmas.Bool.Decides.{Decides-int_eq}
-use Rattle.std.proofs.lemmas.Cmp.{nat_list_eq_equiv}
-use Rattle.std.specs.Cmp.Lexicographic.{pointwise, same_text}
+use Rattle.std.proofs.lemmas.Bool.{false_from_ne_true, or_cases, or_left, or_right}
 use Rattle.std.specs.List.{filter}
-use Rattle.std.specs.Ordering.{int_eq}
-use Rattle.std.specs.Prelude.{◌↔◌, nat_eq, cond}
+use Rattle.std.specs.Prelude.{◌↔◌, cond}
 use Rattle.lint_core.specs.declared.database.Value.{Value}
-use Rattle.lint_core.specs.declared.database.Value.TheVariants.{Null, Int, Text}
-use Rattle.lint_core.specs.Comparison.{are_not_distinct}
 use Rattle.lint_core.specs.QueryAnswer.{is_same_row, one_of_each}
-use Rattle.lint_core.proofs.Conditions.{true_of_test}
 use Rattle.meaning_laws.proofs.Members.{Stands, stands_filter}
 use Rattle.meaning_laws.proofs.MeaningLawsDistinct.{row_decides}
 use Rattle.answer_laws.proofs.Listed.{AllDiffer, filter_stands, filter_all, filter_shorter, as_many_pass}

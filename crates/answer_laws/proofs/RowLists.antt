@@ -8,7 +8,7 @@ use Rattle.lint_core.specs.declared.database.Database.{Database}
 use Rattle.lint_core.specs.Database.{below, row_lists, rows_of}
 use Rattle.lint_core.specs.Points.{are_rows}
 use Rattle.lint_core.proofs.Lists.{below_last, below_wider}
-use Rattle.meaning_laws.proofs.Members.{Stands, stands_below, stands_front, stands_behind, stands_map, stands_flat_map}
+use Rattle.meaning_laws.proofs.Members.{Stands, stands_below, stands_map, stands_flat_map}
 use Rattle.answer_laws.proofs.Listed.{AllDiffer, stands_either, differ_append, map_stands, differ_map, flat_map_stands, differ_flat_map}
 
 -- ---- the numbers below a number
