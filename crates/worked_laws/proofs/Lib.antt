@@ -3,3 +3,4 @@ pub mod Examples
 pub mod QuestionExamples
 pub mod Translated
 pub mod CounterExamples
+pub mod UnaskedExample

@@ -1,0 +1,14 @@
+pub mod Listed
+pub mod RowLists
+pub mod Selecting
+pub mod Inside
+pub mod Scalars
+pub mod OneOfEach
+pub mod Bindings
+pub mod Refuting
+pub mod OfEachRow
+pub mod OneRow
+pub mod Fewer
+pub mod Replaced
+pub mod HoldsAlways
+pub mod HoldsBack

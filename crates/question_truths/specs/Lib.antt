@@ -1,0 +1,3 @@
+pub mod AtMostOne
+pub mod SubqueryFits
+pub mod Room
