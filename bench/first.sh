@@ -3,7 +3,6 @@
 # what this machine does, and promises nothing. Run it at the top: bench/first.sh
 set -eu
 top=$(cd "$(dirname "$0")/.." && pwd)
-program=$top/crates/sqllint/out/sqllint
 work=$(mktemp -d)
 trap 'rm -rf "$work"' EXIT
 
@@ -40,6 +39,7 @@ least() {
 
 # built first, where that is still to be done
 "$top/sqllint" "$work/schema.sql" "$work/schema.sql" > /dev/null || true
+program=$(echo "$top"/out/sqllint/*/sqllint)
 query 1 64 > "$work/empty.sql"
 query 1023 64 > "$work/wide.sql"
 query 511 1 > "$work/half.sql"

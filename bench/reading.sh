@@ -4,13 +4,13 @@
 # bench/reading.sh
 set -eu
 top=$(cd "$(dirname "$0")/.." && pwd)
-program=$top/crates/sqllint/out/sqllint
 work=$(mktemp -d)
 trap 'rm -rf "$work"' EXIT
 schema=$top/examples/shop/schema.sql
 
 # built first, where that is still to be done
 "$top/sqllint" "$schema" /dev/null > /dev/null || true
+program=$(echo "$top"/out/sqllint/*/sqllint)
 
 # ordinary queries, again and again, to at most so many bytes
 queries() {

@@ -1,1 +1,3 @@
-SELECT b FROM t WHERE a > 5 AND a < 7;
+SELECT number
+FROM employee
+WHERE salary > 5000 AND grade >= 3 AND salary <= 5000;

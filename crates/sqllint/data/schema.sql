@@ -1,1 +1,5 @@
-CREATE TABLE t (a INTEGER, b SMALLINT);
+CREATE TABLE employee (
+  number INTEGER,
+  salary INTEGER,
+  grade SMALLINT
+);

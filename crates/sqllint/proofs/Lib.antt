@@ -1,3 +1,1 @@
-pub mod Appends
-pub mod Entries
-pub mod Quotes
+pub mod Known

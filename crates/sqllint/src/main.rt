@@ -1,28 +1,24 @@
-//! The program `sqllint`: it reads a schema and a query file, judges each query, and writes a report.
+//! The program `sqllint`: it gives a run the words, the system's files and standard output, and
+//! ends with its status.
 //!
-//! What is proved stands on `program::run`, for every shelf and every sink. `host` is the trusted
-//! edge. Of `specs/` a reader must believe `Words`, `Text` (the bytes), `RightRun` (what a run says of the
-//! queries), `Stops` (when each stop comes), `Status` and `Written`. `laws` proves of `Text` that five runs, and
-//! the steps of every kind, have the texts that are known by hand.
+//! The run is `lint_run::run`, whose clauses hold at every shelf and every sink, so at these.
+//! `host` is the edge: which bytes a file gave and a writer took is said by what std says of a
+//! reader and of a writer. Of `specs/` a reader must believe `Edge`. What a file on the disk holds
+//! and what a terminal shows no clause says.
 //!
-//! Wrong bodies that the contracts let through, and why that is right: a `HostShelf` that reads nothing,
-//! and reads and writes of the system's that always fail (no clause can say what a file or a terminal
-//! gives or takes); private functions that find no memory (tests show that runs succeed); and the one
-//! question in place of the question that is printed.
+//! Wrong bodies that the contracts let through: a `main` that ends with a second status in place
+//! of the run's, or gives a run other words; a shelf that opens another file than the one at the
+//! path, or reads bytes away as it opens it; and calls of both that fail though the system's do
+//! not. The stored run and the tests show that these do none of it.
 #![tactic(auto)]
 
 mod host;
-mod laws;
-mod outcome;
-mod program;
-mod reading;
-mod report;
+mod taken;
 #[cfg(test)]
 mod tests;
-mod words;
 
 use host::{HostShelf, StdSink};
-use program::run;
+use lint_run::run;
 use std::env;
 use std::io::{self, ErrorKind};
 use std::process::ExitCode;

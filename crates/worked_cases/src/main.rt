@@ -14,6 +14,7 @@ mod meaning;
 mod pages;
 mod placing;
 mod questions;
+mod runs;
 mod texts;
 mod trees;
 

@@ -11,7 +11,12 @@
 //! - `axiom`, `holds`, `fails`: an axiom of the schema, and the formulas of the query's condition;
 //! - `negated`, `placed`, `sentence`: of the formula that holds, its negation, the same in another place, and how many
 //!   nodes it has as a sentence;
-//! - `empty`: whether the query's answer is always empty.
+//! - `empty`: whether the query's answer is always empty;
+//! - `file`: from here on a file of the page, its path and its bytes;
+//! - `portions`: the most bytes that a read of a file gives and that a write takes;
+//! - `shelf_fails`, `sink_fails`: the numbers of the calls of the shelf and of the sink that fail;
+//! - `run`: the status of the program on these words, and what it writes.
+use crate::runs::Setting;
 use crate::texts::{query, schema, shown_stop};
 use crate::{bound, empties, formulas, lexing, meaning, questions, trees};
 use lint_base::{NoMemory, TextStop};
@@ -30,6 +35,7 @@ pub(crate) struct Found {
 pub(crate) struct Page {
     pub(crate) schema: Option<Schema>,
     pub(crate) query: Option<Query>,
+    setting: Setting,
 }
 
 /// A text that was read, or why it was not.
@@ -76,6 +82,9 @@ impl Page {
             "pieces" => lexing::pieces(alloc, text),
             "query_tree" => trees::query(alloc, text),
             "schema_tree" => trees::schema(alloc, text),
+            "file" | "portions" | "shelf_fails" | "sink_fails" | "run" => {
+                self.setting.answer(alloc, word, text)
+            }
             _ => self.answer_of_schema(alloc, word, text),
         }
     }
@@ -174,6 +183,7 @@ pub(crate) fn judged(alloc: Global, text: &str) -> Result<Found, NoMemory> {
     let mut page = Page {
         schema: None,
         query: None,
+        setting: Setting::new(alloc),
     };
     let mut found = Found {
         right: 0,

@@ -1,0 +1,24 @@
+//! A run of the program, from its words to its report and its status, over any shelf and any sink.
+//!
+//! The layer above uses `run` with what it answers, `Outcome`, `Stop` and `Which`. Of `specs/` a
+//! reader must believe `Words`, `Text` (the bytes), `RightRun` (what a run says of the queries),
+//! `Stops` (when each stop comes), `Status` and `Written`; `inner/` is cited by private functions
+//! alone. `laws` proves of `Text` that five runs, and the steps of every kind, have the texts that
+//! are known by hand.
+//!
+//! What was written is said where the sink tells its contents, and what the files hold where the
+//! shelf tells its files; of a shelf or a sink that tells neither the clauses speak of counts and
+//! paths alone. Memory may run out at any call that allocates: a private function that always
+//! answers so would be proved, and the runs of `worked_cases` show that there are reports.
+#![tactic(auto)]
+
+mod judging;
+mod laws;
+mod outcome;
+mod program;
+mod report;
+mod words;
+
+pub use laws::worked_texts;
+pub use outcome::{Outcome, Stop, Which};
+pub use program::run;

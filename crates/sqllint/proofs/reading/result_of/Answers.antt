@@ -1,5 +1,0 @@
-use Rattle.sqllint.proofs.Entries.{read_run}
-use Rattle.sqllint.proofs.reading.result_of.Goals as goal
-
-pub returns-in-Ok : goal.returns-in-Ok
-returns-in-Ok c = read_run c.args.schema.now c.args.number c.args.text.now c.args.piece c.in-Ok.query c.answered.result c.in-Ok.ensures.read c.answered.ensures
