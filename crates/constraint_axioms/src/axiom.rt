@@ -2,8 +2,8 @@
 use lint_core::KeyName;
 use sort_formula::Sentence;
 
-/// A sentence that holds in each database that meets the schema, and the foreign key that it states, if it states
-/// one.
+/// A sentence that holds in each database that meets the schema, and the foreign key that it
+/// states, if it states one.
 #[derive(Drop)]
 pub struct Axiom {
     pub sentence: Sentence,

@@ -30,7 +30,13 @@ fn only(alloc: Global, number: u32) -> Result<Items<Items<u32>>, NoMemory>
 
 /// The one row of a table, at which a CHECK is asked.
 fn row_scope(alloc: Global, number: u32) -> Result<Scope, NoMemory>
-    ensures { IfOk result (λ scope. scope ≡ record { levels = (0 ∷ []) ∷ []; tables = (number ∷ []) ∷ []; depth = 1 }) }
+    ensures { IfOk result
+        (λ scope. scope ≡ record {
+          levels = (0 ∷ []) ∷ [];
+          tables = (number ∷ [])
+              ∷ [];
+          depth = 1;
+        }) }
 {
     Ok(Scope {
         levels: only(alloc, 0)?,
@@ -42,8 +48,10 @@ fn row_scope(alloc: Global, number: u32) -> Result<Scope, NoMemory>
 /// The CHECK is not false there.
 fn is_kept(alloc: Global, schema: &Schema, check: &Cond, scope: &Scope) -> Result<Formula, NoMemory>
     requires { CanStand schema.now check.now scope.now }
-    ensures formula { IfOk result (λ formula. formula ≡ negated (is_false_formula schema.now check.now scope.now)) }
-    ensures bounds { IfOk result (λ _. is_within (2 ^ 65) (is_false_formula schema.now check.now scope.now) ≡ true) }
+    ensures formula { IfOk result
+        (λ formula. formula ≡ negated (is_false_formula schema.now check.now scope.now)) }
+    ensures bounds { IfOk result
+        (λ _. is_within (2 ^ 65) (is_false_formula schema.now check.now scope.now) ≡ true) }
 {
     negate(alloc, &is_false(alloc, schema, check, scope)?)
 }
@@ -56,7 +64,11 @@ pub(crate) fn check_axiom(
     check: &Cond,
 ) -> Result<Axiom, NoMemory>
     requires { check_fits schema.now number check.now ≡ true }
-    ensures { IfOk result (λ stated. spoken stated ≡ plain (f.Forall number (negated (is_false_formula schema.now check.now (record { levels = (0 ∷ []) ∷ []; tables = (number ∷ []) ∷ []; depth = 1 }))))) }
+    ensures { IfOk result
+        (λ stated. spoken stated
+        ≡ plain (f.Forall number
+        (negated (is_false_formula schema.now check.now
+        (record { levels = (0 ∷ []) ∷ []; tables = (number ∷ []) ∷ []; depth = 1 }))))) }
 {
     formulas_fit();
     let scope = row_scope(alloc, number)?;

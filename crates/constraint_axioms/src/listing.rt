@@ -24,7 +24,9 @@ fn push_not_nulls(
     table: &Table,
 ) -> Result<(), NoMemory>
     requires { length table.now.columns ≤ 64 }
-    ensures { OnOk result (map spoken axioms.new.items ≡ map spoken axioms.old.items ++ not_null_axioms [] number table.now 0 table.now.columns) }
+    ensures { OnOk result
+        (map spoken axioms.new.items ≡ map spoken axioms.old.items
+        ++ not_null_axioms [] number table.now 0 table.now.columns) }
 {
     for (index, column) in table.columns.as_slice().iter().enumerate() {
         if column.not_null {
@@ -40,7 +42,9 @@ fn push_keys(
     number: u32,
     table: &Table,
 ) -> Result<(), NoMemory>
-    ensures { OnOk result (map spoken axioms.new.items ≡ map spoken axioms.old.items ++ map (key_axiom [] number table.now) table.now.keys) }
+    ensures { OnOk result
+        (map spoken axioms.new.items ≡ map spoken axioms.old.items
+        ++ map (key_axiom [] number table.now) table.now.keys) }
 {
     for key in table.keys.as_slice() {
         axioms.push(key_axiom(alloc, number, table, key)?)?;
@@ -56,7 +60,9 @@ fn push_checks(
     table: &Table,
 ) -> Result<(), NoMemory>
     requires { list_all (check_fits schema.now number) table.now.checks ≡ true }
-    ensures { OnOk result (map spoken axioms.new.items ≡ map spoken axioms.old.items ++ map (check_axiom schema.now number table.now) table.now.checks) }
+    ensures { OnOk result
+        (map spoken axioms.new.items ≡ map spoken axioms.old.items
+        ++ map (check_axiom schema.now number table.now) table.now.checks) }
 {
     for check in table.checks.as_slice() {
         axioms.push(check_axiom(alloc, schema, number, check)?)?;
@@ -71,7 +77,9 @@ fn push_foreign_keys(
     table: &Table,
 ) -> Result<(), NoMemory>
     requires { length table.now.foreign ≤ 1000 }
-    ensures { OnOk result (map spoken axioms.new.items ≡ map spoken axioms.old.items ++ foreign_axioms [] number table.now 0 table.now.foreign) }
+    ensures { OnOk result
+        (map spoken axioms.new.items ≡ map spoken axioms.old.items
+        ++ foreign_axioms [] number table.now 0 table.now.foreign) }
 {
     for (index, key) in table.foreign.as_slice().iter().enumerate() {
         let name = KeyName {
@@ -91,7 +99,9 @@ fn push_table(
     table: &Table,
 ) -> Result<(), NoMemory>
     requires { is_table schema.now number table.now ≡ true }
-    ensures { OnOk result (map spoken axioms.new.items ≡ map spoken axioms.old.items ++ table_axioms schema.now number table.now) }
+    ensures { OnOk result
+        (map spoken axioms.new.items ≡ map spoken axioms.old.items
+        ++ table_axioms schema.now number table.now) }
 {
     push_not_nulls(alloc, axioms, number, table)?;
     push_keys(alloc, axioms, number, table)?;
@@ -109,12 +119,15 @@ fn all_axioms(alloc: Global, schema: &Schema) -> Result<Vec<Axiom>, NoMemory>
     Ok(axioms)
 }
 
-/// The constraints of the schema as sentences, which hold together exactly in the databases that meet it: table by
-/// table, the NOT NULL columns, the keys, the CHECKs and the foreign keys, each in order (ISO/IEC 9075:1992, 4.10). Each
-/// fits the schema. `NoMemory` where there is no memory for them.
+/// The constraints of the schema as sentences, which hold together exactly in the databases that
+/// meet it: table by table, the NOT NULL columns, the keys, the CHECKs and the foreign keys, each
+/// in order (ISO/IEC 9075:1992, 4.10). Each fits the schema. `NoMemory` where there is no memory
+/// for them.
 pub fn axioms(alloc: Global, schema: &Schema) -> Result<Vec<Axiom>, NoMemory>
     ensures listed { IfOk result (λ list. map spoken list.items ≡ axioms schema.now) }
-    ensures fits { IfOk result (λ list. list_all (λ (a : Made). formula_fits schema.now a.sentence []) list.items ≡ true) }
+    ensures fits { IfOk result
+        (λ list. list_all (λ (a : Made). formula_fits schema.now a.sentence []) list.items
+        ≡ true) }
 {
     axioms_fit();
     all_axioms(alloc, schema)

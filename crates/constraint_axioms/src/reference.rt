@@ -15,7 +15,8 @@ use sort_formula::{Cell, Formula, exists, for_all};
 use std::alloc::Global;
 
 fn push_nulls(ways: &mut Items<Formula>, columns: &[u32]) -> Result<(), NoMemory>
-    ensures { OnOk result (ways.new ≡ ways.old ++ map (λ column. f.Atom (atom.IsNull 0 column)) columns.now) }
+    ensures { OnOk result
+        (ways.new ≡ ways.old ++ map (λ column. f.Atom (atom.IsNull 0 column)) columns.now) }
 {
     for column in columns {
         let own = Cell {
@@ -29,7 +30,9 @@ fn push_nulls(ways: &mut Items<Formula>, columns: &[u32]) -> Result<(), NoMemory
 
 /// The row and that of the target are equal in all pairs of columns.
 fn are_equal(alloc: Global, table: &Table, key: &ForeignKey) -> Result<Formula, NoMemory>
-    ensures { IfOk result (λ formula. formula ≡ f.And (flat_map (pair_equal [] 0 table.now) (zip key.now.columns key.now.target_columns))) }
+    ensures { IfOk result
+        (λ formula. formula ≡ f.And
+        (flat_map (pair_equal [] 0 table.now) (zip key.now.columns key.now.target_columns))) }
 {
     let mut parts = Items::new(alloc);
     for (column, target) in key
@@ -73,7 +76,9 @@ pub(crate) fn foreign_axiom(
     table: &Table,
     key: &ForeignKey,
 ) -> Result<Axiom, NoMemory>
-    ensures { IfOk result (λ stated. spoken stated ≡ record { sentence = foreign_sentence [] name.table table.now key.now; key = Some name }) }
+    ensures { IfOk result
+        (λ stated. spoken stated
+        ≡ record { sentence = foreign_sentence [] name.table table.now key.now; key = Some name }) }
 {
     let formula = foreign_sentence(alloc, name.table, table, key)?;
     Ok(Axiom {

@@ -39,7 +39,9 @@ fn push_column(ways: &mut Items<Formula>, table: &Table, column: u32) -> Result<
 
 /// Two rows are one, or differ in the key, or have a NULL there.
 fn one_or_apart(alloc: Global, table: &Table, key: &Key) -> Result<Formula, NoMemory>
-    ensures { IfOk result (λ formula. formula ≡ f.Or (f.Atom (atom.Same 0 1) ∷ flat_map (key_column [] 0 table.now) key.now.columns)) }
+    ensures { IfOk result
+        (λ formula. formula ≡ f.Or
+        (f.Atom (atom.Same 0 1) ∷ flat_map (key_column [] 0 table.now) key.now.columns)) }
 {
     let mut ways = Items::new(alloc);
     ways.push(Formula::Atom(Atom::Same { row: 0, other: 1 }))?;

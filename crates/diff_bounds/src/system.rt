@@ -6,7 +6,8 @@ ghost use Rattle.diff_bounds.specs.Rings.{IsNegativeRing};
 
 use lint_base::Items;
 
-/// The constraint value(left) - value(right) <= most, between two variables named by their numbers.
+/// The constraint value(left) - value(right) <= most, between two variables named by their
+/// numbers.
 #[derive(Clone, Copy, Debug, PartialEq, Eq)]
 pub struct Edge {
     pub left: u32,

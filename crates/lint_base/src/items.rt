@@ -56,7 +56,8 @@ impl<T> Items<T> {
 }
 
 impl<T: Drop> Items<T> {
-    /// Adds an item at the end. After `NoMemory` the item is dropped and the list stands as it was.
+    /// Adds an item at the end. After `NoMemory` the item is dropped and the list stands as it
+    /// was.
     pub fn push(&mut self, item: T) -> Result<(), NoMemory>
         ensures ok { OnOk result (self.new ≡ self.old ++ item ∷ []) }
         ensures err { OnErr result (self.new ≡ self.old) }

@@ -69,8 +69,8 @@ impl Model for MemShelf {
 
 impl MemShelf {
     /// A shelf of these files, of which a path opens the first that has it. A read gives at most
-    /// `piece` bytes. `fails` are the numbers of the calls that fail, opens and reads counted together
-    /// from 1. It takes no memory.
+    /// `piece` bytes. `fails` are the numbers of the calls that fail, opens and reads counted
+    /// together from 1. It takes no memory.
     pub fn new(files: Items<MemFile>, piece: u32, fails: Items<u32>) -> MemShelf
         requires { 0 < piece }
         ensures { result ≡ record {
@@ -125,9 +125,11 @@ impl Shelf for MemShelf {
             else one_more self.old.open_faults) }
         ensures later { self.old.open_faults ≤ self.new.open_faults }
         ensures read_faults { self.new.read_faults ≡ self.old.read_faults }
-        ensures moments { self.new.moments ≡ (if is_ok result then Opened path.now else Refused path.now)
+        ensures moments { self.new.moments
+            ≡ (if is_ok result then Opened path.now else Refused path.now)
             ∷ self.old.moments }
-        ensures left { self.new.left ≡ (if is_ok result then held_at self.old.files path.now else None) }
+        ensures left { self.new.left
+            ≡ (if is_ok result then held_at self.old.files path.now else None) }
     {
         let fails = count_call(&mut self.calls, self.fails.as_slice());
         match start_of(self.files.as_slice(), path) {
@@ -145,8 +147,8 @@ impl Shelf for MemShelf {
         }
     }
 
-    /// Puts as many bytes at the front of the slice as the piece, the slice and what is left of the
-    /// open file allow. It fails exactly where this call's number is listed.
+    /// Puts as many bytes at the front of the slice as the piece, the slice and what is left of
+    /// the open file allow. It fails exactly where this call's number is listed.
     fn read(&mut self, into: &mut [u8]) -> Result<usize, Failed>
         ensures call { IsCallLater self.old self.new }
         ensures fails { IsErr result ↔ Contains self.old.fails self.new.calls }
@@ -205,9 +207,9 @@ impl Model for MemSink {
 }
 
 impl MemSink {
-    /// A sink that holds nothing. It takes its room of 16 MiB (16,777,216 bytes) now, and no memory
-    /// later. A write takes at most `piece` bytes. `fails` are the numbers of the writes that fail,
-    /// counted from 1. `NoMemory` comes where there is no such room.
+    /// A sink that holds nothing. It takes its room of 16 MiB (16,777,216 bytes) now, and no
+    /// memory later. A write takes at most `piece` bytes. `fails` are the numbers of the writes
+    /// that fail, counted from 1. `NoMemory` comes where there is no such room.
     pub fn new(alloc: Global, piece: u32, fails: Items<u32>) -> Result<MemSink, NoMemory>
         requires { 0 < piece }
         ensures { IfOk result (λ sink. sink ≡ record {
@@ -250,7 +252,8 @@ impl Sink for MemSink {
             ⊎ (room < length self.old.contents + min self.old.piece (length bytes.now))) }
         ensures count { IfOk result (λ n. n ≡ min self.old.piece (length bytes.now)) }
         ensures some { IfOk result (λ n. 0 < length bytes.now → 0 < n) }
-        ensures faults { self.new.faults ≡ (if is_ok result then self.old.faults else one_more self.old.faults) }
+        ensures faults { self.new.faults
+            ≡ (if is_ok result then self.old.faults else one_more self.old.faults) }
         ensures later { self.old.faults ≤ self.new.faults }
         ensures contents { MatchResult result
             (λ n. self.new.contents ≡ self.old.contents ++ take n bytes.now)
@@ -292,7 +295,8 @@ fn index_of(files: &[MemFile], path: &str) -> Option<usize>
 
 /// The start of the first file that has the path.
 fn start_of(files: &[MemFile], path: &str) -> Option<Place>
-    ensures { MatchOption result (held_at files.now path.now ≡ None) (λ place. (place.file < length files.now)
+    ensures { MatchOption result (held_at files.now path.now ≡ None)
+        (λ place. (place.file < length files.now)
         × (place.given ≡ 0)
         × (held_at files.now path.now ≡ Some (bytes_at files.now place.file))) }
 {
@@ -308,8 +312,10 @@ fn give(files: &[MemFile], place: &mut Place, piece: u32, into: &mut [u8]) -> us
     ensures file { place.new.file ≡ place.old.file }
     ensures given { place.new.given ≤ length (bytes_at files.now place.new.file) }
     ensures count { result
-        ≡ min piece (min (length into.new) (length (drop place.old.given (bytes_at files.now place.old.file)))) }
-    ensures gives { Gives (Some (drop place.old.given (bytes_at files.now place.old.file))) result into.new
+        ≡ min piece (min (length into.new)
+        (length (drop place.old.given (bytes_at files.now place.old.file)))) }
+    ensures gives { Gives
+        (Some (drop place.old.given (bytes_at files.now place.old.file))) result into.new
         (Some (drop place.new.given (bytes_at files.now place.new.file))) }
 {
     let rest = &files[place.file].bytes.as_slice()[place.given..];

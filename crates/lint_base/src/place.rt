@@ -19,7 +19,8 @@ pub struct Failed;
 /// Why a text is refused, by the number and the name that reports print.
 #[derive(Clone, Copy, Debug, PartialEq, Eq)]
 pub enum Fault {
-    /// 1: a byte that begins no token, a quoted token that is no UTF-8, or a delimited name of no characters.
+    /// 1: a byte that begins no token, a quoted token that is no UTF-8, or a delimited name of no
+    /// characters.
     BadByte,
     /// 2: a quote that is not closed.
     OpenQuote,

@@ -28,8 +28,8 @@ pub trait Shelf {
     /// How many reads failed.
     ghost read_faults: { Self → ℕ };
 
-    /// Opens a file, from its first byte. A path that is not there is a fault. After a fault no file
-    /// is open.
+    /// Opens a file, from its first byte. A path that is not there is a fault. After a fault no
+    /// file is open.
     fn open_file(&mut self, path: &str) -> Result<(), Failed>
         ensures files { files self.new ≡ files self.old }
         ensures open_faults { MatchResult result
@@ -37,14 +37,17 @@ pub trait Shelf {
             (λ _. Rose (open_faults self.old) (open_faults self.new)) }
         ensures later { open_faults self.old ≤ open_faults self.new }
         ensures read_faults { read_faults self.new ≡ read_faults self.old }
-        ensures opened_path { opened_path self.new ≡ (if is_ok result then Some path.now else opened_path self.old) }
-        ensures failed_path { failed_path self.new ≡ (if is_ok result then failed_path self.old else Some path.now) }
+        ensures opened_path { opened_path self.new
+            ≡ (if is_ok result then Some path.now else opened_path self.old) }
+        ensures failed_path { failed_path self.new
+            ≡ (if is_ok result then failed_path self.old else Some path.now) }
         ensures given { given self.new ≡ (if is_ok result then 0 else given self.old) }
-        ensures left { left self.new ≡ (if is_ok result then file_at (files self.old) path.now else None) }
+        ensures left { left self.new
+            ≡ (if is_ok result then file_at (files self.old) path.now else None) }
         ensures there { OnOk result (IsThere (files self.old) path.now) };
 
-    /// Puts the next bytes of the open file at the front of the slice, and answers how many: 0 only at
-    /// the end, or where the slice is empty. After a fault no file is open.
+    /// Puts the next bytes of the open file at the front of the slice, and answers how many: 0
+    /// only at the end, or where the slice is empty. After a fault no file is open.
     fn read(&mut self, into: &mut [u8]) -> Result<usize, Failed>
         ensures files { files self.new ≡ files self.old }
         ensures open_faults { open_faults self.new ≡ open_faults self.old }

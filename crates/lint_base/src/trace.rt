@@ -11,8 +11,8 @@ const REFUSED: u64 = 1;
 
 const GAVE: u64 = 2;
 
-/// What was asked and given so far, the latest first. It takes no memory, and its methods do nothing
-/// when they run.
+/// What was asked and given so far, the latest first. It takes no memory, and its methods do
+/// nothing when they run.
 #[derive(Drop)]
 pub struct Trace {
     marker: PhantomData<u8>,

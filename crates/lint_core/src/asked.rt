@@ -62,7 +62,8 @@ impl Query {
     }
 
     fn has_comparable(&self, tables: &[Table], item: u32, other: u32) -> bool
-        ensures { result ≡ test_two (are_comparable tables.now self.now) self.now.items item other }
+        ensures { result ≡ test_two
+            (are_comparable tables.now self.now) self.now.items item other }
     {
         let items = self.items.as_slice();
         match (items.get(item as usize), items.get(other as usize)) {
@@ -134,7 +135,8 @@ impl Query {
     }
 
     fn has_entry_beside_others(&self, entry: u32) -> bool
-        ensures { result ≡ nat_lt 1 (length (main_entries self.now)) && nat_lt entry (length (main_entries self.now)) }
+        ensures { result ≡ nat_lt 1 (length (main_entries self.now))
+            && nat_lt entry (length (main_entries self.now)) }
     {
         let count = self.block.entries.as_slice().len();
         count > 1 && (entry as usize) < count
@@ -150,12 +152,12 @@ impl Query {
 }
 
 impl Question {
-    /// Whether the question is asked of the query. E9 is asked of each scalar subquery; E1 of the query; E2
-    /// of its DISTINCT; E3 of each item that is a column and does not come from `*`; E4 of each two such
-    /// items of one kind; E5 of each entry of the main FROM list, beside others, that no item and no order
-    /// key names, where no conjunct that does not name it has a scalar subquery; E6 and E7 of each
-    /// predicate; E8 of each two main entries of one table; E10 of each NOT IN subquery that selects a
-    /// column. It takes no memory.
+    /// Whether the question is asked of the query. E9 is asked of each scalar subquery; E1 of the
+    /// query; E2 of its DISTINCT; E3 of each item that is a column and does not come from `*`; E4
+    /// of each two such items of one kind; E5 of each entry of the main FROM list, beside others,
+    /// that no item and no order key names, where no conjunct that does not name it has a scalar
+    /// subquery; E6 and E7 of each predicate; E8 of each two main entries of one table; E10 of
+    /// each NOT IN subquery that selects a column. It takes no memory.
     pub fn fits(&self, schema: &Schema, query: &Query) -> bool
         ensures { result ≡ is_asked schema.now query.now self.now }
     {

@@ -11,7 +11,8 @@ pub enum SumEdge {
     Low { row: u32, column: u32 },
     /// A cell is at most the greatest value of its domain.
     High { row: u32, column: u32 },
-    /// The fact says that two rows are one: the column's value in the first is at most that in the second.
+    /// The fact says that two rows are one: the column's value in the first is at most that in the
+    /// second.
     Same { fact: u32, column: u32 },
     /// Alike, the second at most the first.
     Back { fact: u32, column: u32 },
@@ -24,14 +25,15 @@ pub enum TextEdge {
     Fact(u32),
     /// Alike, from its right side to its left.
     FactBack(u32),
-    /// The fact says that two rows are one: so are the column's texts, from the first row to the second.
+    /// The fact says that two rows are one: so are the column's texts, from the first row to the
+    /// second.
     Same { fact: u32, column: u32 },
     /// Alike, from the second to the first.
     Back { fact: u32, column: u32 },
 }
 
-/// A part of a path between rows: a fact that says that two rows are one, taken from its first to its second, or
-/// back.
+/// A part of a path between rows: a fact that says that two rows are one, taken from its first to
+/// its second, or back.
 #[derive(Clone, Copy, Debug, PartialEq, Eq)]
 pub struct SameEdge {
     pub fact: u32,
@@ -62,14 +64,14 @@ pub enum Step {
     Sum {
         edges: Items<SumEdge>,
     },
-    /// Closes the branch: the two sides of the last fact are not equal, and the chain makes them equal; or without
-    /// a last fact the chain makes two different texts equal.
+    /// Closes the branch: the two sides of the last fact are not equal, and the chain makes them
+    /// equal; or without a last fact the chain makes two different texts equal.
     Text {
         last: Option<u32>,
         edges: Items<TextEdge>,
     },
-    /// Closes the branch: the cell of the fact is NULL, and the other fact, whose row is the same by the path, says
-    /// that it is not.
+    /// Closes the branch: the cell of the fact is NULL, and the other fact, whose row is the same
+    /// by the path, says that it is not.
     Null {
         fact: u32,
         other: u32,
@@ -82,8 +84,8 @@ pub enum Step {
     },
 }
 
-/// A certificate for a question of a query. Both count from 1. The value is that of a constant column; for every
-/// other question it is not looked at, and NULL where this program writes it.
+/// A certificate for a question of a query. Both count from 1. The value is that of a constant
+/// column; for every other question it is not looked at, and NULL where this program writes it.
 #[derive(Drop)]
 pub struct Cert {
     pub query: u32,

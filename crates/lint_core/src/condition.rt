@@ -7,8 +7,8 @@ use sqlite_items::Boxed;
 /// What a comparison compares.
 #[derive(Debug, Drop)]
 pub enum Term {
-    /// A column of a FROM entry, plus a number. Level 0 is the main query; entries and columns count
-    /// from 0. Nothing is added to a text.
+    /// A column of a FROM entry, plus a number. Level 0 is the main query; entries and columns
+    /// count from 0. Nothing is added to a text.
     Cell {
         level: u32,
         entry: u32,
@@ -25,8 +25,9 @@ pub enum Term {
     Null,
 }
 
-/// A condition. Its truth is false, unknown or true (ISO/IEC 9075:1992, 8.12). The place of a predicate
-/// runs from its first to its last token; that of a subquery from its left to its right parenthesis.
+/// A condition. Its truth is false, unknown or true (ISO/IEC 9075:1992, 8.12). The place of a
+/// predicate runs from its first to its last token; that of a subquery from its left to its right
+/// parenthesis.
 #[cycle(condition)]
 #[derive(Drop)]
 pub enum Cond {

@@ -1,5 +1,5 @@
-//! Copies of values, conditions, queries, databases and points. A copy is equal to its source; `NoMemory` comes where
-//! memory for it runs out, and leaves the source as it is.
+//! Copies of values, conditions, queries, databases and points. A copy is equal to its source;
+//! `NoMemory` comes where memory for it runs out, and leaves the source as it is.
 ghost use Rattle.std.specs.Prelude.{◌≡◌, IfOk};
 
 use crate::condition::{Block, Cond, Entry, Term};

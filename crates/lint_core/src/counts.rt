@@ -1,5 +1,6 @@
-//! Whether a condition has as many scalar subqueries, NOT IN subqueries or predicates as that there is one
-//! of a number. Each walk takes one away of the number as it goes, so that no count passes its type.
+//! Whether a condition has as many scalar subqueries, NOT IN subqueries or predicates as that
+//! there is one of a number. Each walk takes one away of the number as it goes, so that no count
+//! passes its type.
 ghost use Rattle.std.specs.Prelude.{◌≡◌, IfSome, IfNone, ◌<◌, ◌+◌, sum_by, nat_lt};
 ghost use Rattle.lint_core.specs.declared.condition.Block.{out-Block};
 ghost use Rattle.lint_core.specs.inner.Counts.{count_scalars, count_not_ins, count_predicates};
@@ -16,7 +17,8 @@ impl Term {
 }
 
 impl Cond {
-    /// What is left of a number after each scalar subquery took one away. `None` where there are more.
+    /// What is left of a number after each scalar subquery took one away. `None` where there are
+    /// more.
     #[cycle(scalars)]
     fn spend_scalars(&self, left: u32) -> Option<u32>
         ensures some { IfSome result (λ rest. rest + count_scalars self.now ≡ left) }
@@ -47,7 +49,8 @@ fn spend_all_scalars(conds: &[Cond], left: u32) -> Option<u32>
 impl Block {
     #[cycle(scalars)]
     fn spend_scalars(&self, left: u32) -> Option<u32>
-        ensures some { IfSome result (λ rest. rest + count_scalars (out-Block self.now).cond ≡ left) }
+        ensures some { IfSome result
+            (λ rest. rest + count_scalars (out-Block self.now).cond ≡ left) }
         ensures none { IfNone result (left < count_scalars (out-Block self.now).cond) }
     {
         self.cond.spend_scalars(left)
@@ -55,8 +58,8 @@ impl Block {
 }
 
 impl Cond {
-    /// What is left of a number after each NOT IN subquery that selects a column took one away. `None`
-    /// where there are more.
+    /// What is left of a number after each NOT IN subquery that selects a column took one away.
+    /// `None` where there are more.
     #[cycle(not_ins)]
     fn spend_not_ins(&self, left: u32) -> Option<u32>
         ensures some { IfSome result (λ rest. rest + count_not_ins self.now ≡ left) }
@@ -97,7 +100,8 @@ fn spend_all_not_ins(conds: &[Cond], left: u32) -> Option<u32>
 impl Block {
     #[cycle(not_ins)]
     fn spend_not_ins(&self, left: u32) -> Option<u32>
-        ensures some { IfSome result (λ rest. rest + count_not_ins (out-Block self.now).cond ≡ left) }
+        ensures some { IfSome result
+            (λ rest. rest + count_not_ins (out-Block self.now).cond ≡ left) }
         ensures none { IfNone result (left < count_not_ins (out-Block self.now).cond) }
     {
         self.cond.spend_not_ins(left)
@@ -138,7 +142,8 @@ fn spend_all_predicates(conds: &[Cond], left: u32) -> Option<u32>
 impl Block {
     #[cycle(predicates)]
     fn spend_predicates(&self, left: u32) -> Option<u32>
-        ensures some { IfSome result (λ rest. rest + count_predicates (out-Block self.now).cond ≡ left) }
+        ensures some { IfSome result
+            (λ rest. rest + count_predicates (out-Block self.now).cond ≡ left) }
         ensures none { IfNone result (left < count_predicates (out-Block self.now).cond) }
     {
         self.cond.spend_predicates(left)

@@ -35,8 +35,8 @@ pub struct Binding {
     pub levels: Items<Items<u32>>,
 }
 
-/// Where a question fails: at one binding, at two, or at one of all main entries but one, of which no row
-/// fits.
+/// Where a question fails: at one binding, at two, or at one of all main entries but one, of which
+/// no row fits.
 #[derive(Drop)]
 pub enum Points {
     One(Binding),
@@ -44,8 +44,8 @@ pub enum Points {
     Without(Binding),
 }
 
-/// The first constraint that a database does not meet, by the numbers of the table, of the column, key or
-/// CHECK, and of the row, each from 0.
+/// The first constraint that a database does not meet, by the numbers of the table, of the column,
+/// key or CHECK, and of the row, each from 0.
 #[derive(Clone, Copy, Debug, PartialEq, Eq)]
 pub enum Violation {
     /// A value outside its column's domain.

@@ -33,8 +33,8 @@ fn tables_fit(tables: &[Table], rows: &[Items<Row>]) -> bool
 }
 
 impl Database {
-    /// Whether the database has a list of rows for each table of the schema, in order, and each row a
-    /// value for each column of its table. The values are not looked at. It takes no memory.
+    /// Whether the database has a list of rows for each table of the schema, in order, and each
+    /// row a value for each column of its table. The values are not looked at. It takes no memory.
     pub fn fits(&self, schema: &Schema) -> bool
         ensures { result ≡ database_fits schema.now self.now }
     {

@@ -182,10 +182,10 @@ impl Query {
     }
 
     /// Whether the query is of the first form: the schema is one table of number columns without
-    /// constraints, the query selects one of its columns, and its WHERE is one comparison, or an AND of
-    /// 2 to 4,096, of a column with a number by an operator other than `<>`. The names of the table and its
-    /// columns are letters A to Z with digits and `_`, begin with a letter and are no reserved words, and the
-    /// query gives the table no other name. It takes no memory.
+    /// constraints, the query selects one of its columns, and its WHERE is one comparison, or an
+    /// AND of 2 to 4,096, of a column with a number by an operator other than `<>`. The names of
+    /// the table and its columns are letters A to Z with digits and `_`, begin with a letter and
+    /// are no reserved words, and the query gives the table no other name. It takes no memory.
     pub fn is_first_form(&self, schema: &Schema) -> bool
         ensures { result ≡ is_first_form schema.now self.now }
     {

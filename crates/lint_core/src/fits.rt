@@ -107,7 +107,8 @@ impl Block {
     /// Whether the block fits, and a term compares with what it selects.
     #[cycle(fits)]
     fn selects(&self, tables: &[Table], outer: &Levels, op: Op, left: &Term, item: &Term) -> bool
-        ensures { result ≡ selected_fits tables.now (tables_of_levels outer.now) op left.now (block_meaning tables.now self.now) item.now }
+        ensures { result ≡ selected_fits tables.now (tables_of_levels outer.now) op left.now
+            (block_meaning tables.now self.now) item.now }
     {
         let entries = self.entries.as_slice();
         let levels = Levels::Inside {
@@ -124,8 +125,8 @@ impl Block {
 const MOST_CONDITIONS: u32 = 65_536;
 
 impl Cond {
-    /// What is left of a number after each condition, those of subqueries too, took one away. `None`
-    /// where there are more.
+    /// What is left of a number after each condition, those of subqueries too, took one away.
+    /// `None` where there are more.
     #[cycle(count)]
     fn spend(&self, left: u32) -> Option<u32>
         ensures some { IfSome result (λ rest. rest + count_conditions self.now ≡ left) }
@@ -158,7 +159,8 @@ fn spend_all(conds: &[Cond], left: u32) -> Option<u32>
 impl Block {
     #[cycle(count)]
     fn spend(&self, left: u32) -> Option<u32>
-        ensures some { IfSome result (λ rest. rest + count_conditions (out-Block self.now).cond ≡ left) }
+        ensures some { IfSome result
+            (λ rest. rest + count_conditions (out-Block self.now).cond ≡ left) }
         ensures none { IfNone result (left < count_conditions (out-Block self.now).cond) }
     {
         self.cond.spend(left)
@@ -235,12 +237,12 @@ fn order_fits(keys: &[Term], tables: &[Table], levels: &Levels) -> bool
 }
 
 impl Query {
-    /// Whether the query fits the schema. Every position in it exists, where tables, levels, entries and
-    /// columns count from 0. The two sides of each comparison are of one kind or one is NULL, and texts
-    /// are compared by `=` and `<>` alone, also with NULL; what a subquery of IN or of an operator selects
-    /// is a side too. Nothing is added to a text, to what is selected or to an order key. There are at most
-    /// 16 entries in each FROM list, 256 items, and 65,536 conditions, those of subqueries counted. It takes
-    /// no memory.
+    /// Whether the query fits the schema. Every position in it exists, where tables, levels,
+    /// entries and columns count from 0. The two sides of each comparison are of one kind or one
+    /// is NULL, and texts are compared by `=` and `<>` alone, also with NULL; what a subquery of
+    /// IN or of an operator selects is a side too. Nothing is added to a text, to what is selected
+    /// or to an order key. There are at most 16 entries in each FROM list, 256 items, and 65,536
+    /// conditions, those of subqueries counted. It takes no memory.
     pub fn fits(&self, schema: &Schema) -> bool
         ensures { result ≡ query_fits schema.now self.now }
     {

@@ -1,19 +1,20 @@
 //! What sqllint speaks about: schemas, queries, databases, questions and their answers, and the
 //! definitions of what they mean.
 //!
-//! The layer above may use every public item. Of `specs/` a reader must believe `Schema` and `Fits`
-//! with `Levels` (which schemas and queries there are), `Domain`, `Database`, `Meets`, `Truth`, `Comparison`, `Evaluation`,
-//! `Condition` and `QueryAnswer` (what SQL means), `Asked` with `Parts`, `Conjuncts`, `Predicates`,
-//! `Subqueries` and `Naming` (which questions are asked), `Points`, `Forms` and `Question` (when they fail),
-//! `DatabaseFits` (which databases a call takes), `FirstForm` and `PlainWord` (which queries are judged so
-//! far).
+//! The layer above may use every public item. Of `specs/` a reader must believe `Schema` and
+//! `Fits` with `Levels` (which schemas and queries there are), `Domain`, `Database`, `Meets`,
+//! `Truth`, `Comparison`, `Evaluation`, `Condition` and `QueryAnswer` (what SQL means), `Asked`
+//! with `Parts`, `Conjuncts`, `Predicates`, `Subqueries` and `Naming` (which questions are asked),
+//! `Points`, `Forms` and `Question` (when they fail), `DatabaseFits` (which databases a call
+//! takes), `FirstForm` and `PlainWord` (which queries are judged so far).
 //!
-//! The law `first_form_is_tested` is the contract of a function that does nothing: the test of the first form says
-//! yes exactly of these queries. What the definitions say in the subject's own words, and by small examples, stands in
-//! the crates `meaning_laws` and `worked_laws`.
+//! The law `first_form_is_tested` is the contract of a function that does nothing: the test of the
+//! first form says yes exactly of these queries. What the definitions say in the subject's own
+//! words, and by small examples, stands in the crates `meaning_laws` and `worked_laws`.
 //!
-//! Of wrong bodies the contracts let through only copies that answer `NoMemory` though there is memory, since no clause
-//! can say when memory ends: the cases of `worked_cases` show that copies are made.
+//! Of wrong bodies the contracts let through only copies that answer `NoMemory` though there is
+//! memory, since no clause can say when memory ends: the cases of `worked_cases` show that copies
+//! are made.
 #![tactic(auto)]
 
 mod asked;

@@ -23,8 +23,8 @@ impl Term {
 }
 
 impl Cond {
-    /// Whether the condition names this entry of the main FROM list, from 0, also in its subqueries and
-    /// in what they select. It takes no memory.
+    /// Whether the condition names this entry of the main FROM list, from 0, also in its
+    /// subqueries and in what they select. It takes no memory.
     #[cycle(names)]
     pub fn names(&self, entry: u32) -> bool
         ensures { result ≡ names entry self.now }

@@ -41,7 +41,8 @@ pub enum Domain {
 }
 
 impl Kind {
-    /// Whether values of the two kinds may be compared at all: both are of one kind, or one is NULL.
+    /// Whether values of the two kinds may be compared at all: both are of one kind, or one is
+    /// NULL.
     pub fn goes_with(self, other: Kind) -> bool
         ensures { result ≡ goes_with self other }
     {
@@ -70,8 +71,8 @@ impl Kind {
         }
     }
 
-    /// The kind of a table's column with a number added; `None` where there is no such column, or where it
-    /// is a text to which something is added.
+    /// The kind of a table's column with a number added; `None` where there is no such column, or
+    /// where it is a text to which something is added.
     pub fn of_cell(tables: &[Table], table: Option<u32>, column: u32, plus: i64) -> Option<Kind>
         ensures { result ≡ cell_kind tables.now table column plus }
     {
@@ -129,8 +130,8 @@ impl Domain {
     }
 }
 
-/// A column, by its name and its domain. `not_null` marks a column that is NOT NULL or in the primary
-/// key.
+/// A column, by its name and its domain. `not_null` marks a column that is NOT NULL or in the
+/// primary key.
 #[derive(Debug, Drop)]
 pub struct Column {
     pub name: Str,
@@ -144,8 +145,8 @@ pub struct Key {
     pub columns: Items<u32>,
 }
 
-/// A foreign key: its own columns, and the column of the target table that each of them refers to. These
-/// are, as a set, the columns of a key of the target table.
+/// A foreign key: its own columns, and the column of the target table that each of them refers to.
+/// These are, as a set, the columns of a key of the target table.
 #[derive(Debug, Drop)]
 pub struct ForeignKey {
     pub columns: Items<u32>,
@@ -153,8 +154,8 @@ pub struct ForeignKey {
     pub target_columns: Items<u32>,
 }
 
-/// A table: its name, its columns in order and its constraints. The primary key, if there is one, is the
-/// first of the keys.
+/// A table: its name, its columns in order and its constraints. The primary key, if there is one,
+/// is the first of the keys.
 #[derive(Drop)]
 pub struct Table {
     pub name: Str,
@@ -188,13 +189,14 @@ impl Model for Schema {
 }
 
 impl Schema {
-    /// The schema of these tables. `None` exactly where a position in them is out of range; where a domain
-    /// is none of the ranges of SMALLINT, INTEGER and BIGINT, nor a text of 1 to 65,535 characters; where
-    /// the two lists of a foreign key differ in length, its target columns are not, as a set and as many,
-    /// those of a key of the target, or a column and its target column differ in kind; where a CHECK has a
-    /// subquery or does not fit its table, in the sense of `Query::fits` with the one row as its level; or
-    /// where there are more than 200 tables, or more than 64 columns, 1,000 keys, 1,000 CHECKs or 1,000
-    /// foreign keys of a table, or 65,536 conditions of a CHECK. It takes no memory.
+    /// The schema of these tables. `None` exactly where a position in them is out of range; where
+    /// a domain is none of the ranges of SMALLINT, INTEGER and BIGINT, nor a text of 1 to 65,535
+    /// characters; where the two lists of a foreign key differ in length, its target columns are
+    /// not, as a set and as many, those of a key of the target, or a column and its target column
+    /// differ in kind; where a CHECK has a subquery or does not fit its table, in the sense of
+    /// `Query::fits` with the one row as its level; or where there are more than 200 tables, or
+    /// more than 64 columns, 1,000 keys, 1,000 CHECKs or 1,000 foreign keys of a table, or 65,536
+    /// conditions of a CHECK. It takes no memory.
     pub fn new(tables: Items<Table>) -> Option<Schema>
         ensures some { IfSome result (λ s. (s ≡ tables) × (is_schema tables ≡ true)) }
         ensures none { IfNone result (is_schema tables ≡ false) }
@@ -308,7 +310,9 @@ fn are_paired(table: &Table, target: &Table, columns: &[u32], others: &[u32]) ->
 }
 
 fn pairs_go_together(table: &Table, target: &Table, columns: &[u32], others: &[u32]) -> bool
-    ensures { result ≡ list_all (λ pair. are_of_one_kind (column_kind table.now pair.0) (column_kind target.now pair.1)) (zip columns.now others.now) }
+    ensures { result ≡ list_all
+        (λ pair. are_of_one_kind (column_kind table.now pair.0) (column_kind target.now pair.1))
+        (zip columns.now others.now) }
 {
     columns.iter().zip(others).all(|(c, o)| Kind::are_of_one_kind(
         table.column_kind(*c),
@@ -356,13 +360,15 @@ fn each_check_fits(checks: &[Cond], tables: &[Table], number: u32) -> bool
 }
 
 fn keys_are_below(keys: &[Key], count: usize) -> bool
-    ensures { result ≡ list_all (λ k. list_all (λ column. nat_lt column count) k.columns) keys.now }
+    ensures { result ≡ list_all
+        (λ k. list_all (λ column. nat_lt column count) k.columns) keys.now }
 {
     keys.iter().all(|k| k.is_below(count))
 }
 
 fn foreign_keys_fit(keys: &[ForeignKey], tables: &[Table], table: &Table) -> bool
-    ensures { result ≡ list_all (λ k. refers_to table.now k (slice_get tables.now k.target)) keys.now }
+    ensures { result ≡ list_all
+        (λ k. refers_to table.now k (slice_get tables.now k.target)) keys.now }
 {
     keys.iter().all(|k| k.fits(tables, table))
 }

@@ -6,8 +6,9 @@ ghost use Rattle.lint_core.specs.Levels.{tables_of_levels};
 use crate::condition::Entry;
 use lint_base::Items;
 
-/// The row variable and the table of each entry of each level, the main query's level first, and the number of
-/// quantifiers outside. The variables are below it; those of a subquery's entries follow from it on.
+/// The row variable and the table of each entry of each level, the main query's level first, and
+/// the number of quantifiers outside. The variables are below it; those of a subquery's entries
+/// follow from it on.
 #[derive(Drop)]
 pub struct Scope {
     pub levels: Items<Items<u32>>,
@@ -43,10 +44,11 @@ impl Entry {
     }
 }
 
-/// The number of an entry of a level, if the level has it; where there is no such level, how many levels
-/// further in it would be.
+/// The number of an entry of a level, if the level has it; where there is no such level, how many
+/// levels further in it would be.
 pub fn number_at(levels: &[Items<u32>], level: u32, entry: u32) -> Result<Option<u32>, usize>
-    ensures there { IfOk result (λ found. (level < length levels.now) × (found ≡ at_entry levels.now level entry)) }
+    ensures there { IfOk result (λ found. (level < length levels.now)
+        × (found ≡ at_entry levels.now level entry)) }
     ensures further { IfErr result (λ more. more + length levels.now ≡ level) }
 {
     match levels.get(level as usize) {
@@ -56,11 +58,13 @@ pub fn number_at(levels: &[Items<u32>], level: u32, entry: u32) -> Result<Option
 }
 
 impl Levels<'_> {
-    /// The table of an entry of a level, if that level has it; where there is no such level, how many
-    /// levels further in it would be.
+    /// The table of an entry of a level, if that level has it; where there is no such level, how
+    /// many levels further in it would be.
     fn look_up(&self, level: u32, entry: u32) -> Result<Option<u32>, usize>
-        ensures there { IfOk result (λ found. (level < length (tables_of_levels self.now)) × (found ≡ at_entry (tables_of_levels self.now) level entry)) }
-        ensures further { IfErr result (λ more. more + length (tables_of_levels self.now) ≡ level) }
+        ensures there { IfOk result (λ found. (level < length (tables_of_levels self.now))
+            × (found ≡ at_entry (tables_of_levels self.now) level entry)) }
+        ensures further { IfErr result
+            (λ more. more + length (tables_of_levels self.now) ≡ level) }
     {
         match self {
             Levels::Outside => Err(level as usize),
@@ -77,7 +81,8 @@ impl Levels<'_> {
         }
     }
 
-    /// The table of an entry of a level, the outermost level being 0; `None` where there is no such entry.
+    /// The table of an entry of a level, the outermost level being 0; `None` where there is no
+    /// such entry.
     pub fn table_at(&self, level: u32, entry: u32) -> Option<u32>
         ensures { result ≡ at_entry (tables_of_levels self.now) level entry }
     {

@@ -52,4 +52,3 @@ IsOrderly (Text length) = Unit {0}
 pub domain_orderly : (d : Domain) → is_domain d ≡ true → IsOrderly d
 domain_orderly (Number least greatest Whole) known = (domain_range least greatest known).order
 domain_orderly (Text length) known = tt
-

@@ -27,7 +27,8 @@ pub(crate) fn certificate(
     ensures value { IfOk result (λ cert. cert.value ≡ Null) }
     ensures steps { let a = inequality_at inequalities.now (slice_index cycle.now 0) in
         let b = inequality_at inequalities.now (slice_index cycle.now 1) in
-        IfOk result (λ cert. cert.steps ≡ opening_steps comparisons.now ++ step.Sum (in_order a b) ∷ []) }
+        IfOk result (λ cert. cert.steps ≡ opening_steps comparisons.now ++ step.Sum (in_order a b)
+        ∷ []) }
 {
     let mut steps = opening_steps(alloc, comparisons)?;
     let a = inequalities[cycle[0] as usize];
@@ -69,7 +70,9 @@ fn opening_steps(alloc: Global, comparisons: &[Comparison]) -> Result<Vec<Step>,
 
 fn push_equation_steps(steps: &mut Vec<Step>, comparisons: &[Comparison]) -> Result<(), NoMemory>
     requires { length comparisons.now ≤ 4096 }
-    ensures { OnOk result (steps.new.items ≡ steps.old.items ++ equation_steps (first_fact comparisons.now) comparisons.now) }
+    ensures { OnOk result
+        (steps.new.items ≡ steps.old.items
+        ++ equation_steps (first_fact comparisons.now) comparisons.now) }
 {
     let mut fact = first_fact(comparisons);
     for comparison in comparisons {

@@ -27,7 +27,8 @@ pub fn judge_empty(
     number: u32,
 ) -> Result<Answer, NoMemory>
     requires fits { query_fits schema.now query.now ≡ true }
-    requires first_form { (table : Table) × (conjuncts : List Conjunct) × IsFirstForm schema.now query.now table conjuncts }
+    requires first_form { (table : Table) × (conjuncts : List Conjunct)
+        × IsFirstForm schema.now query.now table conjuncts }
     ensures { IfOk result (λ answer. IsRightAnswer schema.now query.now number 1 answer) }
 {
     certified_question_holds();

@@ -9,8 +9,8 @@ use lint_core::{Column, Domain, SumEdge};
 use lint_tables::Op;
 use std::alloc::Global;
 
-/// An inequality between a column and a number: as an edge, in which variable 0 stands for the number
-/// 0 and variable c + 1 for column c, and as a certificate names it.
+/// An inequality between a column and a number: as an edge, in which variable 0 stands for the
+/// number 0 and variable c + 1 for column c, and as a certificate names it.
 #[derive(Clone, Copy, Debug)]
 pub(crate) struct Inequality {
     pub edge: Edge,
@@ -65,7 +65,8 @@ pub(crate) fn inequalities(
 
 fn push_domains(inequalities: &mut Vec<Inequality>, columns: &[Column]) -> Result<(), NoMemory>
     requires { length columns.now ≤ 64 }
-    ensures { OnOk result (inequalities.new.items ≡ inequalities.old.items ++ of_domains 0 columns.now) }
+    ensures { OnOk result
+        (inequalities.new.items ≡ inequalities.old.items ++ of_domains 0 columns.now) }
 {
     for (number, column) in columns.iter().enumerate() {
         push_domain(inequalities, number as u32, column.domain)?;
@@ -79,7 +80,8 @@ fn push_domain(
     domain: Domain,
 ) -> Result<(), NoMemory>
     requires { column < 64 }
-    ensures { OnOk result (inequalities.new.items ≡ inequalities.old.items ++ of_domain column domain) }
+    ensures { OnOk result
+        (inequalities.new.items ≡ inequalities.old.items ++ of_domain column domain) }
 {
     let Domain::Number {
         least,
@@ -104,7 +106,8 @@ fn push_comparisons(
     requires in_columns { All (λ c. c.column < 64) comparisons.now }
     ensures numbers { OnOk result (AreNumbers comparisons.now) }
     ensures items { let first = first_fact comparisons.now in
-        OnOk result (inequalities.new.items ≡ inequalities.old.items ++ of_comparisons first (first + length comparisons.now) comparisons.now) }
+        OnOk result (inequalities.new.items ≡ inequalities.old.items
+        ++ of_comparisons first (first + length comparisons.now) comparisons.now) }
 {
     let mut fact = first_fact(comparisons);
     let mut parts = fact + comparisons.len() as u32;
@@ -122,8 +125,8 @@ pub(crate) fn first_fact(comparisons: &[Comparison]) -> u32
     if comparisons.len() < 2 { 1 } else { 2 }
 }
 
-/// Adds what the comparison states, whose formula is this fact. The parts of an equation are the facts
-/// from `parts` on. Answers the next fact behind them.
+/// Adds what the comparison states, whose formula is this fact. The parts of an equation are the
+/// facts from `parts` on. Answers the next fact behind them.
 fn push_comparison(
     inequalities: &mut Vec<Inequality>,
     fact: u32,
@@ -134,7 +137,9 @@ fn push_comparison(
     requires parts { parts < 2 ^ 20 }
     ensures number { OnOk result (IsNumber comparison.literal) }
     ensures next { IfOk result (λ next. next ≡ parts_after parts comparison.op) }
-    ensures items { OnOk result (inequalities.new.items ≡ inequalities.old.items ++ of_comparison fact parts comparison.column comparison.literal comparison.op) }
+    ensures items { OnOk result
+        (inequalities.new.items ≡ inequalities.old.items
+        ++ of_comparison fact parts comparison.column comparison.literal comparison.op) }
 {
     let Comparison {
         column,

@@ -1,5 +1,5 @@
-//! What accepted steps show of a question. The function calls other laws and does nothing else: its contract is a law
-//! about definitions.
+//! What accepted steps show of a question. The function calls other laws and does nothing else:
+//! its contract is a law about definitions.
 ghost use Rattle.std.specs.Prelude.{◌≡◌, true, List};
 ghost use Rattle.lint_core.specs.declared.certificate.Step.{Step};
 ghost use Rattle.lint_core.specs.declared.database.Value.TheVariants.{Null};
@@ -14,12 +14,13 @@ ghost use Rattle.sort_formula.specs.Counters.{counter_sentence};
 
 use truth_laws::{accepted_sentence_fails, formulas_say_truth};
 
-/// Of every query that fits: where steps refute the counter sentence of E1, the answer is empty in every database
-/// that meets the schema.
+/// Of every query that fits: where steps refute the counter sentence of E1, the answer is empty in
+/// every database that meets the schema.
 pub fn certified_question_holds()
     ensures { (schema : List Table) → is_schema schema ≡ true
         → (query : Query) → query_fits schema query ≡ true
-        → (steps : List Step) → accepts schema (counter_sentence schema query Empty Null) steps ≡ true
+        → (steps : List Step)
+        → accepts schema (counter_sentence schema query Empty Null) steps ≡ true
         → HoldsAlways schema query Empty Null }
 {
     accepted_sentence_fails();

@@ -62,7 +62,8 @@ fn result_of(
 ) -> Result<QueryResult, NoMemory>
     requires short { length text.now ≤ 1048576 }
     requires within { IsWithin (length text.now) piece }
-    ensures { IfOk result (λ r. IsRightResult schema.now number text.now (record { span = piece; result = r }) r) }
+    ensures { IfOk result
+        (λ r. IsRightResult schema.now number text.now (record { span = piece; result = r }) r) }
 {
     match read_query(alloc, schema, text, piece) {
         Ok(query) => answered(alloc, schema, query, number),

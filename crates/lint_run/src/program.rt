@@ -184,7 +184,8 @@ fn text_to_write(alloc: Global, stop: Option<Stop>, run: &Run) -> Result<String,
 
 /// Writes the text of what was judged.
 fn written<K: Sink>(alloc: Global, judged: Judged, out: &mut K) -> Outcome
-    ensures ends { (files : Option (List ℕ → Option (List ℕ))) (paths : Option Paths) (before now : Told) →
+    ensures ends { (files : Option (List ℕ → Option (List ℕ))) (paths : Option Paths)
+        (before now : Told) →
         HasCause files paths before now judged.run judged.stop →
         EndsRight files paths before now (sunk K.faults K.contents out.old) (sunk K.faults K.contents out.new) result.run result.stop }
     ensures status { result.status ≡ status_of result.stop result.run }
@@ -202,16 +203,18 @@ fn written<K: Sink>(alloc: Global, judged: Judged, out: &mut K) -> Outcome
     }
 }
 
-/// Reads the two files that the words name, judges the queries and writes the report, or the line of
-/// what ended the run early.
+/// Reads the two files that the words name, judges the queries and writes the report, or the line
+/// of what ended the run early.
 ///
 /// | Stop | Comes |
 /// |---|---|
 /// | `WordsRefused` | exactly where the words are not two files; nothing is read |
-/// | `OpenFault`, `ReadFault` | only where the shelf's count of that fault rose, at the file that the stop names |
+/// | `OpenFault`, `ReadFault` | only where the shelf's count of that fault rose, at the file that
+/// the stop names |
 /// | `TooLong` | exactly where the shelf gave more than 1,048,576 bytes of the file |
-/// | `SchemaRefused` | exactly where the schema file's bytes, tokens or names break a rule of the language |
-/// | `WriteFault` | only where the sink's count rose; it replaces the stop whose line was being written |
+/// | `SchemaRefused` | exactly where the schema file's bytes, tokens or names break a rule of the
+/// language | | `WriteFault` | only where the sink's count rose; it replaces the stop whose line
+/// was being written |
 /// | `NoMemory` | where memory ran out |
 pub fn run<H: Shelf, K: Sink>(
     alloc: Global,
@@ -225,7 +228,8 @@ pub fn run<H: Shelf, K: Sink>(
     ensures ends { EndsRight (H.files shelf.old) (paths_of (map string_bytes words.now))
         (told H.open_faults H.read_faults H.failed_path H.opened_path H.given shelf.old)
         (told H.open_faults H.read_faults H.failed_path H.opened_path H.given shelf.new)
-        (sunk K.faults K.contents out.old) (sunk K.faults K.contents out.new) result.run result.stop }
+        (sunk K.faults K.contents out.old)
+        (sunk K.faults K.contents out.new) result.run result.stop }
     ensures status { result.status ≡ status_of result.stop result.run }
 {
     let judged = judge_words(alloc, shelf, words);

@@ -86,7 +86,8 @@ fn push_refusal(out: &mut String, refusal: Refusal) -> Result<(), AllocError>
 }
 
 fn push_fact(out: &mut String, name: &str, fact: u32) -> Result<(), AllocError>
-    ensures { OnOk result (string_bytes out.new ≡ string_bytes out.old ++ (name.now ++ decimal fact ++ codes "]")) }
+    ensures { OnOk result
+        (string_bytes out.new ≡ string_bytes out.old ++ (name.now ++ decimal fact ++ codes "]")) }
 {
     push_text(out, name)?;
     push_number(out, u64::from(fact))?;
@@ -94,7 +95,9 @@ fn push_fact(out: &mut String, name: &str, fact: u32) -> Result<(), AllocError>
 }
 
 fn push_cell(out: &mut String, row: u32, column: u32) -> Result<(), AllocError>
-    ensures { OnOk result (string_bytes out.new ≡ string_bytes out.old ++ (decimal row ++ codes "," ++ decimal column ++ codes "]")) }
+    ensures { OnOk result
+        (string_bytes out.new ≡ string_bytes out.old
+        ++ (decimal row ++ codes "," ++ decimal column ++ codes "]")) }
 {
     push_number(out, u64::from(row))?;
     push_text(out, ",")?;
@@ -128,7 +131,9 @@ fn push_edge(out: &mut String, edge: SumEdge) -> Result<(), AllocError>
 }
 
 fn push_more_edges(out: &mut String, edges: &[SumEdge]) -> Result<(), AllocError>
-    ensures { OnOk result (string_bytes out.new ≡ string_bytes out.old ++ texts (λ e. codes "," ++ edge_text e) edges.now) }
+    ensures { OnOk result
+        (string_bytes out.new ≡ string_bytes out.old
+        ++ texts (λ e. codes "," ++ edge_text e) edges.now) }
 {
     for edge in edges {
         push_text(out, ",")?;
@@ -138,7 +143,8 @@ fn push_more_edges(out: &mut String, edges: &[SumEdge]) -> Result<(), AllocError
 }
 
 fn push_edges(out: &mut String, edges: &[SumEdge]) -> Result<(), AllocError>
-    ensures { OnOk result (string_bytes out.new ≡ string_bytes out.old ++ joined (codes ",") edge_text edges.now) }
+    ensures { OnOk result
+        (string_bytes out.new ≡ string_bytes out.old ++ joined (codes ",") edge_text edges.now) }
 {
     match edges.split_first() {
         Some((first, more)) => {
@@ -168,7 +174,9 @@ fn push_link(out: &mut String, edge: TextEdge) -> Result<(), AllocError>
 }
 
 fn push_more_links(out: &mut String, edges: &[TextEdge]) -> Result<(), AllocError>
-    ensures { OnOk result (string_bytes out.new ≡ string_bytes out.old ++ texts (λ e. codes "," ++ link_text e) edges.now) }
+    ensures { OnOk result
+        (string_bytes out.new ≡ string_bytes out.old
+        ++ texts (λ e. codes "," ++ link_text e) edges.now) }
 {
     for edge in edges {
         push_text(out, ",")?;
@@ -201,7 +209,9 @@ fn push_part(out: &mut String, part: SameEdge) -> Result<(), AllocError>
 }
 
 fn push_more_parts(out: &mut String, parts: &[SameEdge]) -> Result<(), AllocError>
-    ensures { OnOk result (string_bytes out.new ≡ string_bytes out.old ++ texts (λ e. codes "," ++ part_text e) parts.now) }
+    ensures { OnOk result
+        (string_bytes out.new ≡ string_bytes out.old
+        ++ texts (λ e. codes "," ++ part_text e) parts.now) }
 {
     for part in parts {
         push_text(out, ",")?;
@@ -234,7 +244,8 @@ fn push_last(out: &mut String, last: Option<u32>) -> Result<(), AllocError>
 
 #[tactic(auto, unfolding(crate::specs::Text::step_text))]
 fn push_text_step(out: &mut String, last: Option<u32>, edges: &[TextEdge]) -> Result<(), AllocError>
-    ensures { OnOk result (string_bytes out.new ≡ string_bytes out.old ++ step_text (variant.Text last edges.now)) }
+    ensures { OnOk result
+        (string_bytes out.new ≡ string_bytes out.old ++ step_text (variant.Text last edges.now)) }
 {
     push_text(out, "[\"text\",")?;
     push_last(out, last)?;
@@ -250,7 +261,9 @@ fn push_null_step(
     other: u32,
     path: &[SameEdge],
 ) -> Result<(), AllocError>
-    ensures { OnOk result (string_bytes out.new ≡ string_bytes out.old ++ step_text (variant.Null fact other path.now)) }
+    ensures { OnOk result
+        (string_bytes out.new ≡ string_bytes out.old
+        ++ step_text (variant.Null fact other path.now)) }
 {
     push_text(out, "[\"null\",")?;
     push_number(out, u64::from(fact))?;
@@ -263,7 +276,8 @@ fn push_null_step(
 
 #[tactic(auto, unfolding(crate::specs::Text::step_text))]
 fn push_same_step(out: &mut String, fact: u32, path: &[SameEdge]) -> Result<(), AllocError>
-    ensures { OnOk result (string_bytes out.new ≡ string_bytes out.old ++ step_text (variant.Same fact path.now)) }
+    ensures { OnOk result
+        (string_bytes out.new ≡ string_bytes out.old ++ step_text (variant.Same fact path.now)) }
 {
     push_text(out, "[\"same\",")?;
     push_number(out, u64::from(fact))?;
@@ -296,7 +310,9 @@ fn push_step(out: &mut String, step: &Step) -> Result<(), AllocError>
 }
 
 fn push_more_steps(out: &mut String, steps: &[Step]) -> Result<(), AllocError>
-    ensures { OnOk result (string_bytes out.new ≡ string_bytes out.old ++ texts (λ s. codes "," ++ step_text s) steps.now) }
+    ensures { OnOk result
+        (string_bytes out.new ≡ string_bytes out.old
+        ++ texts (λ s. codes "," ++ step_text s) steps.now) }
 {
     for step in steps {
         push_text(out, ",")?;
@@ -319,7 +335,9 @@ fn push_steps(out: &mut String, steps: &[Step]) -> Result<(), AllocError>
 
 #[tactic(auto, unfolding(crate::specs::Text::doubled))]
 fn push_doubled_char(out: &mut String, character: char) -> Result<(), AllocError>
-    ensures { OnOk result (string_bytes out.new ≡ string_bytes out.old ++ encode_utf8_all (doubled 39 (character ∷ []))) }
+    ensures { OnOk result
+        (string_bytes out.new ≡ string_bytes out.old
+        ++ encode_utf8_all (doubled 39 (character ∷ []))) }
 {
     if character == '\'' {
         push_text(out, "''")
@@ -329,7 +347,9 @@ fn push_doubled_char(out: &mut String, character: char) -> Result<(), AllocError
 }
 
 fn push_doubled(out: &mut String, text: &str) -> Result<(), AllocError>
-    ensures { OnOk result (string_bytes out.new ≡ string_bytes out.old ++ encode_utf8_all (doubled 39 (chars text.now))) }
+    ensures { OnOk result
+        (string_bytes out.new ≡ string_bytes out.old
+        ++ encode_utf8_all (doubled 39 (chars text.now))) }
 {
     for character in text.chars() {
         push_doubled_char(out, character)?;
@@ -338,7 +358,9 @@ fn push_doubled(out: &mut String, text: &str) -> Result<(), AllocError>
 }
 
 fn push_quoted(out: &mut String, text: &Str) -> Result<(), AllocError>
-    ensures { OnOk result (string_bytes out.new ≡ string_bytes out.old ++ (codes "'" ++ encode_utf8_all (doubled 39 text.now) ++ codes "'")) }
+    ensures { OnOk result
+        (string_bytes out.new ≡ string_bytes out.old
+        ++ (codes "'" ++ encode_utf8_all (doubled 39 text.now) ++ codes "'")) }
 {
     push_text(out, "'")?;
     push_doubled(out, text.as_str())?;
@@ -357,7 +379,9 @@ fn push_value(out: &mut String, value: &Value) -> Result<(), AllocError>
 }
 
 fn push_more_values(out: &mut String, values: &[Value]) -> Result<(), AllocError>
-    ensures { OnOk result (string_bytes out.new ≡ string_bytes out.old ++ texts (λ v. codes ", " ++ value_text v) values.now) }
+    ensures { OnOk result
+        (string_bytes out.new ≡ string_bytes out.old
+        ++ texts (λ v. codes ", " ++ value_text v) values.now) }
 {
     for value in values {
         push_text(out, ", ")?;
@@ -367,7 +391,9 @@ fn push_more_values(out: &mut String, values: &[Value]) -> Result<(), AllocError
 }
 
 fn push_values(out: &mut String, values: &[Value]) -> Result<(), AllocError>
-    ensures { OnOk result (string_bytes out.new ≡ string_bytes out.old ++ joined (codes ", ") value_text values.now) }
+    ensures { OnOk result
+        (string_bytes out.new ≡ string_bytes out.old
+        ++ joined (codes ", ") value_text values.now) }
 {
     match values.split_first() {
         Some((first, more)) => {
@@ -379,7 +405,8 @@ fn push_values(out: &mut String, values: &[Value]) -> Result<(), AllocError>
 }
 
 fn push_name(out: &mut String, name: &Str) -> Result<(), AllocError>
-    ensures { OnOk result (string_bytes out.new ≡ string_bytes out.old ++ encode_utf8_all name.now) }
+    ensures { OnOk result
+        (string_bytes out.new ≡ string_bytes out.old ++ encode_utf8_all name.now) }
 {
     push_text(out, name.as_str())
 }
@@ -395,7 +422,8 @@ fn push_target(out: &mut String, table: &Table) -> Result<(), AllocError>
 
 #[tactic(auto, unfolding(crate::specs::Text::insert_line))]
 fn push_insert(out: &mut String, table: &Table, row: &Row) -> Result<(), AllocError>
-    ensures { OnOk result (string_bytes out.new ≡ string_bytes out.old ++ insert_line table.now row.now) }
+    ensures { OnOk result
+        (string_bytes out.new ≡ string_bytes out.old ++ insert_line table.now row.now) }
 {
     push_target(out, table)?;
     push_values(out, row.values.as_slice())?;
@@ -403,7 +431,8 @@ fn push_insert(out: &mut String, table: &Table, row: &Row) -> Result<(), AllocEr
 }
 
 fn push_rows(out: &mut String, table: &Table, rows: &[Row]) -> Result<(), AllocError>
-    ensures { OnOk result (string_bytes out.new ≡ string_bytes out.old ++ texts (insert_line table.now) rows.now) }
+    ensures { OnOk result
+        (string_bytes out.new ≡ string_bytes out.old ++ texts (insert_line table.now) rows.now) }
 {
     for row in rows {
         push_insert(out, table, row)?;
@@ -413,7 +442,8 @@ fn push_rows(out: &mut String, table: &Table, rows: &[Row]) -> Result<(), AllocE
 
 #[tactic(auto, unfolding(crate::specs::Text::insert_lines))]
 fn push_tables(out: &mut String, tables: &[Table], rows: &[Items<Row>]) -> Result<(), AllocError>
-    ensures { OnOk result (string_bytes out.new ≡ string_bytes out.old ++ insert_lines tables.now rows.now) }
+    ensures { OnOk result
+        (string_bytes out.new ≡ string_bytes out.old ++ insert_lines tables.now rows.now) }
 {
     let mut tables = tables;
     let mut rows = rows;
@@ -429,7 +459,9 @@ fn push_tables(out: &mut String, tables: &[Table], rows: &[Items<Row>]) -> Resul
 }
 
 fn push_more_places(out: &mut String, places: &[u32]) -> Result<(), AllocError>
-    ensures { OnOk result (string_bytes out.new ≡ string_bytes out.old ++ texts (λ p. codes "," ++ decimal (p + 1)) places.now) }
+    ensures { OnOk result
+        (string_bytes out.new ≡ string_bytes out.old
+        ++ texts (λ p. codes "," ++ decimal (p + 1)) places.now) }
 {
     for place in places {
         push_text(out, ",")?;
@@ -452,7 +484,9 @@ fn push_level(out: &mut String, places: &[u32]) -> Result<(), AllocError>
 }
 
 fn push_more_levels(out: &mut String, levels: &[Items<u32>]) -> Result<(), AllocError>
-    ensures { OnOk result (string_bytes out.new ≡ string_bytes out.old ++ texts (λ l. codes "/" ++ level_text l) levels.now) }
+    ensures { OnOk result
+        (string_bytes out.new ≡ string_bytes out.old
+        ++ texts (λ l. codes "/" ++ level_text l) levels.now) }
 {
     for level in levels {
         push_text(out, "/")?;
@@ -503,7 +537,8 @@ fn push_at(out: &mut String, points: &Points) -> Result<(), AllocError>
 
 #[tactic(auto, unfolding(crate::specs::Text::counter_text))]
 fn push_counter(out: &mut String, tables: &[Table], counter: &Counter) -> Result<(), AllocError>
-    ensures { OnOk result (string_bytes out.new ≡ string_bytes out.old ++ counter_text tables.now counter.now) }
+    ensures { OnOk result
+        (string_bytes out.new ≡ string_bytes out.old ++ counter_text tables.now counter.now) }
 {
     push_text(out, "    database\n")?;
     push_tables(out, tables, counter.database.tables.as_slice())?;
@@ -511,7 +546,9 @@ fn push_counter(out: &mut String, tables: &[Table], counter: &Counter) -> Result
 }
 
 fn push_counters(out: &mut String, tables: &[Table], counters: &[Counter]) -> Result<(), AllocError>
-    ensures { OnOk result (string_bytes out.new ≡ string_bytes out.old ++ texts (counter_text tables.now) counters.now) }
+    ensures { OnOk result
+        (string_bytes out.new ≡ string_bytes out.old
+        ++ texts (counter_text tables.now) counters.now) }
 {
     for counter in counters {
         push_counter(out, tables, counter)?;
@@ -534,7 +571,8 @@ fn push_not_always(
     tables: &[Table],
     counters: &[Counter],
 ) -> Result<(), AllocError>
-    ensures { OnOk result (string_bytes out.new ≡ string_bytes out.old ++ not_always_text tables.now counters.now) }
+    ensures { OnOk result
+        (string_bytes out.new ≡ string_bytes out.old ++ not_always_text tables.now counters.now) }
 {
     push_text(out, "not always\n")?;
     push_counters(out, tables, counters)
@@ -542,7 +580,8 @@ fn push_not_always(
 
 #[tactic(auto, unfolding(crate::specs::Text::answer_text))]
 fn push_answer(out: &mut String, tables: &[Table], answer: &Answer) -> Result<(), AllocError>
-    ensures { OnOk result (string_bytes out.new ≡ string_bytes out.old ++ answer_text tables.now answer.now) }
+    ensures { OnOk result
+        (string_bytes out.new ≡ string_bytes out.old ++ answer_text tables.now answer.now) }
 {
     match answer {
         Answer::Always(cert) => push_always(out, cert.steps.as_slice()),
@@ -552,7 +591,8 @@ fn push_answer(out: &mut String, tables: &[Table], answer: &Answer) -> Result<()
 
 #[tactic(auto, unfolding(crate::specs::Text::question_text))]
 fn push_question(out: &mut String, query: &Query, question: Question) -> Result<(), AllocError>
-    ensures { OnOk result (string_bytes out.new ≡ string_bytes out.old ++ question_text query.now question) }
+    ensures { OnOk result
+        (string_bytes out.new ≡ string_bytes out.old ++ question_text query.now question) }
 {
     match question {
         Question::Empty => {
@@ -570,7 +610,8 @@ fn push_asked(
     number: u64,
     question: Question,
 ) -> Result<(), AllocError>
-    ensures { OnOk result (string_bytes out.new ≡ string_bytes out.old ++ asked_text query.now number question) }
+    ensures { OnOk result
+        (string_bytes out.new ≡ string_bytes out.old ++ asked_text query.now number question) }
 {
     push_text(out, "  ")?;
     push_number(out, number)?;
@@ -586,7 +627,9 @@ fn push_answers(
     questions: &[Question],
     answers: &[Answer],
 ) -> Result<(), AllocError>
-    ensures { OnOk result (string_bytes out.new ≡ string_bytes out.old ++ answers_text tables.now query.now 1 questions.now answers.now) }
+    ensures { OnOk result
+        (string_bytes out.new ≡ string_bytes out.old
+        ++ answers_text tables.now query.now 1 questions.now answers.now) }
 {
     let mut number = 1;
     let mut questions = questions;
@@ -610,7 +653,8 @@ fn push_result(
     tables: &[Table],
     result_of: &QueryResult,
 ) -> Result<(), AllocError>
-    ensures { OnOk result (string_bytes out.new ≡ string_bytes out.old ++ result_text tables.now result_of.now) }
+    ensures { OnOk result
+        (string_bytes out.new ≡ string_bytes out.old ++ result_text tables.now result_of.now) }
 {
     match result_of {
         QueryResult::Refused(refusal) => {
@@ -638,7 +682,8 @@ fn push_place(out: &mut String, number: u64, span: Span) -> Result<(), AllocErro
 }
 
 fn push_queries(out: &mut String, tables: &[Table], queries: &[QueryRun]) -> Result<(), AllocError>
-    ensures { OnOk result (string_bytes out.new ≡ string_bytes out.old ++ queries_text tables.now 1 queries.now) }
+    ensures { OnOk result
+        (string_bytes out.new ≡ string_bytes out.old ++ queries_text tables.now 1 queries.now) }
 {
     let mut number = 1;
     for query in queries {
@@ -660,7 +705,9 @@ fn push_which(out: &mut String, which: Which) -> Result<(), AllocError>
 }
 
 fn push_file_stop(out: &mut String, name: &str, which: Which) -> Result<(), AllocError>
-    ensures { OnOk result (string_bytes out.new ≡ string_bytes out.old ++ (name.now ++ which_text which ++ codes "\n")) }
+    ensures { OnOk result
+        (string_bytes out.new ≡ string_bytes out.old
+        ++ (name.now ++ which_text which ++ codes "\n")) }
 {
     push_text(out, name)?;
     push_which(out, which)?;
@@ -669,7 +716,8 @@ fn push_file_stop(out: &mut String, name: &str, which: Which) -> Result<(), Allo
 
 #[tactic(auto, unfolding(crate::specs::Text::schema_refused_text))]
 fn push_schema_refused(out: &mut String, refusal: Refusal) -> Result<(), AllocError>
-    ensures { OnOk result (string_bytes out.new ≡ string_bytes out.old ++ schema_refused_text refusal) }
+    ensures { OnOk result
+        (string_bytes out.new ≡ string_bytes out.old ++ schema_refused_text refusal) }
 {
     push_text(out, "stop SchemaRefused ")?;
     push_refusal(out, refusal)?;

@@ -17,7 +17,8 @@ fn is_path(word: &str) -> bool
 
 /// The files, where the words are two and neither begins with `-`.
 pub fn files_named(words: &[String]) -> Option<Files<'_>>
-    ensures { option_map (λ f. paths_at f.schema.now f.queries.now) result ≡ paths_of (map string_bytes words.now) }
+    ensures { option_map (λ f. paths_at f.schema.now f.queries.now) result
+        ≡ paths_of (map string_bytes words.now) }
 {
     let [schema, queries] = words else {
         return None;

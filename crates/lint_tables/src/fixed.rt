@@ -26,8 +26,9 @@ macro_rules! fixed {
     };
 }
 
-/// The reserved words, in upper case and in their order. A caller of `RESERVED.find` knows them, but a
-/// clause cannot name a constant that holds references: `reserved_words` states which words these are.
+/// The reserved words, in upper case and in their order. A caller of `RESERVED.find` knows them,
+/// but a clause cannot name a constant that holds references: `reserved_words` states which words
+/// these are.
 pub const RESERVED: Fixed<44> = fixed! {
     ALL AND ANY AS BETWEEN BY CASE CHECK CONSTRAINT CREATE CROSS DISTINCT EXCEPT EXISTS FOREIGN FROM FULL
     GROUP HAVING IN INNER INTERSECT IS JOIN LEFT LIKE NATURAL NOT NULL ON OR ORDER OUTER PRIMARY REFERENCES
@@ -42,8 +43,8 @@ pub fn reserved_words() -> Fixed<44>
 }
 
 impl<const N: usize> Fixed<N> {
-    /// The place, from 0, of the first of the words that the given one is, with its ASCII letters taken in
-    /// upper case; None exactly where it is none of them. It takes no memory.
+    /// The place, from 0, of the first of the words that the given one is, with its ASCII letters
+    /// taken in upper case; None exactly where it is none of them. It takes no memory.
     pub fn find(&self, word: &[u8]) -> Option<usize>
         ensures place { result ≡ place_of self.now word.now }
         ensures within { IfSome result (λ place. place < N) }

@@ -1,10 +1,10 @@
-//! Small tables that others look things up in: the three-valued AND, OR and NOT as grids of numbers,
-//! fixed lists of words with the reserved words of SQL, and the comparison operators with the difference
-//! bounds that state them.
+//! Small tables that others look things up in: the three-valued AND, OR and NOT as grids of
+//! numbers, fixed lists of words with the reserved words of SQL, and the comparison operators with
+//! the difference bounds that state them.
 //!
-//! The layer above may use every public item; it looks a keyword up by `RESERVED.find`. Of `specs/` a
-//! reader must believe `Grid`, `Words`, `Operators` and `Ways`; `laws` proves of the grids, of the
-//! operators, of their bounds and of the reserved words what they are for.
+//! The layer above may use every public item; it looks a keyword up by `RESERVED.find`. Of
+//! `specs/` a reader must believe `Grid`, `Words`, `Operators` and `Ways`; `laws` proves of the
+//! grids, of the operators, of their bounds and of the reserved words what they are for.
 #![tactic(auto)]
 
 mod fixed;

@@ -14,8 +14,8 @@ pub enum Op {
     Ge,
 }
 
-/// A difference bound between the sides a and b of a comparison of whole numbers: a - b is at most minus
-/// `less`.
+/// A difference bound between the sides a and b of a comparison of whole numbers: a - b is at most
+/// minus `less`.
 #[derive(Clone, Copy, Debug, PartialEq, Eq)]
 pub struct Way {
     /// Whether it bounds b - a instead.

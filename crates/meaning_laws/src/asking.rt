@@ -1,5 +1,5 @@
-//! The law of the list of questions. The function does nothing: its contract is a law about the definitions in
-//! `lint_core`.
+//! The law of the list of questions. The function does nothing: its contract is a law about the
+//! definitions in `lint_core`.
 ghost use Rattle.std.specs.Prelude.{◌≡◌, true, List, Contains};
 ghost use Rattle.lint_core.specs.declared.query.Query.{Query};
 ghost use Rattle.lint_core.specs.declared.query.Question.{Question};

@@ -61,7 +61,8 @@ impl Cell {
         })
     }
 
-    /// Adds the ways in which two cells differ, both texts or both numbers. `NoMemory` where there is no memory.
+    /// Adds the ways in which two cells differ, both texts or both numbers. `NoMemory` where there
+    /// is no memory.
     pub fn push_different(
         self,
         other: Cell,
@@ -82,7 +83,8 @@ impl Cell {
         ways.push(other.is_within(self, -1))
     }
 
-    /// Adds that two cells are equal, both texts or both numbers. `NoMemory` where there is no memory.
+    /// Adds that two cells are equal, both texts or both numbers. `NoMemory` where there is no
+    /// memory.
     pub fn push_equal(
         self,
         alloc: Global,
@@ -106,8 +108,8 @@ impl Cell {
         parts.push(Formula::And(bounds))
     }
 
-    /// That two cells are not distinct, both texts or both numbers: both are NULL, or they are equal. `NoMemory` where
-    /// there is no memory for it.
+    /// That two cells are not distinct, both texts or both numbers: both are NULL, or they are
+    /// equal. `NoMemory` where there is no memory for it.
     pub fn not_distinct(self, alloc: Global, other: Cell, texts: bool) -> Result<Formula, NoMemory>
         ensures { IfOk result (λ formula. formula
             ≡ not_distinct_cells texts
@@ -146,8 +148,8 @@ pub fn for_all(alloc: Global, table: u32, body: Formula) -> Result<Formula, NoMe
     })
 }
 
-/// Some rows of the tables satisfy the body: one quantifier for each table, in order. `NoMemory` where there is no
-/// memory for them.
+/// Some rows of the tables satisfy the body: one quantifier for each table, in order. `NoMemory`
+/// where there is no memory for them.
 pub fn exist_rows(alloc: Global, tables: &[u32], body: Formula) -> Result<Formula, NoMemory>
     ensures { IfOk result (λ formula. formula ≡ exist_rows tables.now body) }
 {
@@ -158,8 +160,8 @@ pub fn exist_rows(alloc: Global, tables: &[u32], body: Formula) -> Result<Formul
     Ok(formula)
 }
 
-/// All rows of the tables satisfy the body: one quantifier for each table, in order. `NoMemory` where there is no
-/// memory for them.
+/// All rows of the tables satisfy the body: one quantifier for each table, in order. `NoMemory`
+/// where there is no memory for them.
 pub fn for_all_rows(alloc: Global, tables: &[u32], body: Formula) -> Result<Formula, NoMemory>
     ensures { IfOk result (λ formula. formula ≡ for_all_rows tables.now body) }
 {

@@ -1,5 +1,5 @@
-//! Copies of sides, atoms and formulas. A copy is equal to its source; `NoMemory` comes where memory for it runs
-//! out, and leaves the source as it is.
+//! Copies of sides, atoms and formulas. A copy is equal to its source; `NoMemory` comes where
+//! memory for it runs out, and leaves the source as it is.
 ghost use Rattle.std.specs.Prelude.{◌≡◌, IfOk};
 
 use crate::formula::{Atom, Formula, Side};

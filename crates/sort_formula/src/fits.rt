@@ -87,7 +87,8 @@ impl Formula {
 
 #[cycle(fits)]
 fn all_fit(parts: &[Formula], tables: &[Table], outside: &Outside) -> bool
-    ensures { result ≡ list_all (λ part. formula_fits tables.now part (tables_outside outside.now)) parts.now }
+    ensures { result ≡ list_all
+        (λ part. formula_fits tables.now part (tables_outside outside.now)) parts.now }
 {
     for part in parts {
         if !part.fits(tables, outside) {

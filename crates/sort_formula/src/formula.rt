@@ -27,7 +27,8 @@ pub enum Atom {
     Other { row: u32, other: u32 },
 }
 
-/// A formula. And of nothing is true, Or of nothing false; a quantifier ranges over the rows of its table.
+/// A formula. And of nothing is true, Or of nothing false; a quantifier ranges over the rows of
+/// its table.
 #[derive(Drop)]
 pub enum Formula {
     Atom(Atom),

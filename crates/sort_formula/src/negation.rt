@@ -76,9 +76,9 @@ fn negate_atom(alloc: Global, atom: &Atom) -> Result<Formula, NoMemory>
     Ok(Formula::Atom(opposite))
 }
 
-/// The negation of the formula: And and Or change places, Exists and Forall, and in the atoms IsNull and NotNull,
-/// Same and Other; a comparison becomes an Or of IsNull for each cell in it and of the opposite comparison. `NoMemory`
-/// where there is no memory for all of it.
+/// The negation of the formula: And and Or change places, Exists and Forall, and in the atoms
+/// IsNull and NotNull, Same and Other; a comparison becomes an Or of IsNull for each cell in it
+/// and of the opposite comparison. `NoMemory` where there is no memory for all of it.
 #[cycle(negate)]
 pub fn negate(alloc: Global, formula: &Formula) -> Result<Formula, NoMemory>
     ensures { IfOk result (λ f. f ≡ negated formula.now) }

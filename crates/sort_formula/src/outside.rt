@@ -12,9 +12,11 @@ pub(crate) enum Outside<'a> {
 }
 
 impl Outside<'_> {
-    /// The table of a variable; where it is not bound, how many quantifiers further in it would be.
+    /// The table of a variable; where it is not bound, how many quantifiers further in it would
+    /// be.
     fn look_up(&self, row: u32) -> Result<u32, u32>
-        ensures there { IfOk result (λ table. (row < length (tables_outside self.now)) × (slice_get (tables_outside self.now) row ≡ Some table)) }
+        ensures there { IfOk result (λ table. (row < length (tables_outside self.now))
+            × (slice_get (tables_outside self.now) row ≡ Some table)) }
         ensures further { IfErr result (λ more. more + length (tables_outside self.now) ≡ row) }
     {
         match self {

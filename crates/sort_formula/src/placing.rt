@@ -123,9 +123,9 @@ fn place_parts(
     Ok(copies)
 }
 
-/// The formula in another place: a variable outside it has its number in `map`, which has one for each quantifier
-/// outside the formula, and the formula's own quantifiers are counted from `depth` on. `NoMemory` where there is
-/// no memory for all of it.
+/// The formula in another place: a variable outside it has its number in `map`, which has one for
+/// each quantifier outside the formula, and the formula's own quantifiers are counted from `depth`
+/// on. `NoMemory` where there is no memory for all of it.
 pub fn place(alloc: Global, formula: &Formula, map: &[u32], depth: u32) -> Result<Formula, NoMemory>
     requires variables { is_numbered_from (length map.now) formula.now ≡ true }
     requires depth { depth + quantifiers formula.now < 2 ^ 32 }

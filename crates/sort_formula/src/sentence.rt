@@ -10,8 +10,8 @@ use crate::outside::Outside;
 use lint_core::Schema;
 use std::marker::Model;
 
-/// A sentence: a formula in which each variable is bound, `Same` and `Other` join variables of one table, and each
-/// bound of `Le` lies within plus or minus 2^66.
+/// A sentence: a formula in which each variable is bound, `Same` and `Other` join variables of one
+/// table, and each bound of `Le` lies within plus or minus 2^66.
 #[derive(Drop)]
 pub struct Sentence {
     formula: Formula,
@@ -35,8 +35,9 @@ impl Model for Sentence {
 }
 
 impl Sentence {
-    /// The sentence of this formula. `None` exactly where a variable in it is not bound, `Same` or `Other` joins
-    /// variables of two tables, or a bound of `Le` is below -2^66 or above 2^66. It takes no memory.
+    /// The sentence of this formula. `None` exactly where a variable in it is not bound, `Same` or
+    /// `Other` joins variables of two tables, or a bound of `Le` is below -2^66 or above 2^66. It
+    /// takes no memory.
     pub fn new(formula: Formula) -> Option<Sentence>
         ensures some { IfSome result (λ s. (s ≡ formula) × (is_sentence formula ≡ true)) }
         ensures none { IfNone result (is_sentence formula ≡ false) }
@@ -56,8 +57,8 @@ impl Sentence {
         &self.formula
     }
 
-    /// Whether the sentence fits the schema: every table and column in it exists, `Le` compares number cells and
-    /// 0, and `TextEq` and `TextNe` text cells and texts. It takes no memory.
+    /// Whether the sentence fits the schema: every table and column in it exists, `Le` compares
+    /// number cells and 0, and `TextEq` and `TextNe` text cells and texts. It takes no memory.
     pub fn fits(&self, schema: &Schema) -> bool
         ensures { result ≡ formula_fits schema.now self.now [] }
     {
@@ -65,7 +66,8 @@ impl Sentence {
             .fits(schema.tables().as_slice(), &Outside::Nothing)
     }
 
-    /// How many nodes the formula has: atoms, And, Or and quantifiers. The greatest `u64` where there are more.
+    /// How many nodes the formula has: atoms, And, Or and quantifiers. The greatest `u64` where
+    /// there are more.
     pub fn nodes(&self) -> u64
         ensures { result ≡ min (nodes self.now) (2 ^ 64 - 1) }
     {

@@ -85,9 +85,11 @@ fn element_has_primary_with(element: &Element, name: &Str) -> bool
     }
 }
 
-/// Whether a rule of a table, one at a column or one beside the columns, is a PRIMARY KEY with the column.
+/// Whether a rule of a table, one at a column or one beside the columns, is a PRIMARY KEY with the
+/// column.
 fn declares_primary_with(elements: &[Element], name: &Str) -> bool
-    ensures { result ≡ list_any (λ e. list_any (is_primary_with name.now) (rules_in e)) elements.now }
+    ensures { result ≡ list_any
+        (λ e. list_any (is_primary_with name.now) (rules_in e)) elements.now }
 {
     elements.iter().any(|e| element_has_primary_with(e, name))
 }

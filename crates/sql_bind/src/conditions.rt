@@ -94,7 +94,8 @@ fn bind_parts(
     parts: &[CondTree],
     levels: &Levels,
 ) -> Result<Items<Cond>, TextStop>
-    ensures { Gives (all_bound (map (bind_cond tables.now (levels_seen levels.now)) parts.now)) result }
+    ensures { Gives (all_bound
+        (map (bind_cond tables.now (levels_seen levels.now)) parts.now)) result }
 {
     let mut conds = Items::new(alloc);
     for part in parts {
@@ -116,7 +117,9 @@ fn bind_scalar(
     left: &TermTree,
     span: Span,
 ) -> Result<Cond, TextStop>
-    ensures { Gives (cond_step tables.now (CondTree-F.Scalar op left.now (select_meaning tables.now select.now) span) (levels_seen levels.now)) result }
+    ensures { Gives (cond_step tables.now
+        (CondTree-F.Scalar op left.now (select_meaning tables.now select.now) span)
+        (levels_seen levels.now)) result }
 {
     let left = bind_term(alloc, tables, left, levels)?;
     let bound = bind_select(alloc, tables, select, levels)?;
@@ -149,7 +152,9 @@ fn bind_in_select(
     negated: bool,
     span: Span,
 ) -> Result<Cond, TextStop>
-    ensures { Gives (cond_step tables.now (CondTree-F.InSelect term.now (select_meaning tables.now select.now) negated span) (levels_seen levels.now)) result }
+    ensures { Gives (cond_step tables.now
+        (CondTree-F.InSelect term.now (select_meaning tables.now select.now) negated span)
+        (levels_seen levels.now)) result }
 {
     let term = bind_term(alloc, tables, term, levels)?;
     let bound = bind_select(alloc, tables, select, levels)?;
@@ -221,7 +226,8 @@ fn bind_ons(
     entries: &[Entry],
     outer: &Levels,
 ) -> Result<Items<Cond>, TextStop>
-    ensures { Gives (bind_ons tables.now entries.now (levels_seen outer.now) 0 (map (entry_meaning tables.now) trees.now)) result }
+    ensures { Gives (bind_ons tables.now entries.now (levels_seen outer.now) 0
+        (map (entry_meaning tables.now) trees.now)) result }
 {
     let mut conds = Items::new(alloc);
     for (number, tree) in trees.iter().enumerate() {
@@ -243,7 +249,9 @@ fn bind_on(
     outer: &Levels,
 ) -> Result<Option<Cond>, TextStop>
     requires { number < 2 ^ 63 }
-    ensures { GivesOption (bind_on tables.now entries.now (levels_seen outer.now) number (entry_meaning tables.now tree.now)) result }
+    ensures { GivesOption
+        (bind_on tables.now entries.now (levels_seen outer.now) number
+        (entry_meaning tables.now tree.now)) result }
 {
     match &tree.on {
         None => Ok(None),
@@ -270,7 +278,9 @@ fn bind_filter(
     entries: &[Entry],
     outer: &Levels,
 ) -> Result<Option<Cond>, TextStop>
-    ensures { GivesOption (bind_filter tables.now entries.now (levels_seen outer.now) (filter_meaning tables.now filter.now)) result }
+    ensures { GivesOption
+        (bind_filter tables.now entries.now (levels_seen outer.now)
+        (filter_meaning tables.now filter.now)) result }
 {
     match filter {
         None => Ok(None),

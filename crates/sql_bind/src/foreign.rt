@@ -17,8 +17,8 @@ use lint_core::{Column, ForeignKey, Kind, Table};
 use sql_tree::{CreateTable, NameTree};
 use std::alloc::Global;
 
-/// The declarations of a schema, the tables with their columns that they declare, and the keys of each
-/// table that they name.
+/// The declarations of a schema, the tables with their columns that they declare, and the keys of
+/// each table that they name.
 #[derive(Drop)]
 pub(crate) struct Declared<'t> {
     pub(crate) outlines: &'t Outlines<'t>,
@@ -63,15 +63,16 @@ fn named_columns(
     Ok(Some(places))
 }
 
-/// The columns that a foreign key refers to: those of its list, or of the primary key where there is
-/// none.
+/// The columns that a foreign key refers to: those of its list, or of the primary key where there
+/// is none.
 #[tactic(auto, using(crate::proofs::Targets::target_list))]
 fn target_columns(
     alloc: Global,
     target: &Target,
     names: &[NameTree],
 ) -> Result<Option<Items<u32>>, NoMemory>
-    ensures { IfOk result (λ targets. targets ≡ targets_named target.now.keys.now.primary target.now.table.now.columns names.now) }
+    ensures { IfOk result
+        (λ targets. targets ≡ targets_named target.now.keys.now.primary target.now.table.now.columns names.now) }
 {
     if !names.is_empty() {
         return named_columns(alloc, target.table.columns.as_slice(), names);
@@ -83,7 +84,9 @@ fn target_columns(
 }
 
 fn pairs_go_together(table: &Table, target: &Table, columns: &[u32], others: &[u32]) -> bool
-    ensures { result ≡ list_all (λ pair. are_of_one_kind (column_kind table.now pair.0) (column_kind target.now pair.1)) (zip columns.now others.now) }
+    ensures { result ≡ list_all
+        (λ pair. are_of_one_kind (column_kind table.now pair.0) (column_kind target.now pair.1))
+        (zip columns.now others.now) }
 {
     columns.iter().zip(others).all(|(c, o)| Kind::are_of_one_kind(
         table.column_kind(*c),
@@ -162,7 +165,8 @@ impl Home<'_> {
         names: &[NameTree],
         at: Span,
     ) -> Result<ForeignKey, TextStop>
-        requires keys { self.now.declared.now.keys.now ≡ all_keys self.now.declared.now.trees.now 0 self.now.declared.now.outlines.now }
+        requires keys { self.now.declared.now.keys.now
+            ≡ all_keys self.now.declared.now.trees.now 0 self.now.declared.now.outlines.now }
         ensures { Gives (with_target self.now.declared.now.outlines.now self.now.declared.now.trees.now self.now.table.now self.now.name.now columns name.now names.now at (table_place self.now.declared.now.outlines.now name.now.text)) result }
     {
         let Some(place) = self.declared.outlines.place(&name.text) else {
@@ -186,7 +190,8 @@ impl Home<'_> {
         names: &[NameTree],
         at: Span,
     ) -> Result<ForeignKey, TextStop>
-        requires keys { self.now.declared.now.keys.now ≡ all_keys self.now.declared.now.trees.now 0 self.now.declared.now.outlines.now }
+        requires keys { self.now.declared.now.keys.now
+            ≡ all_keys self.now.declared.now.trees.now 0 self.now.declared.now.outlines.now }
         ensures { Gives (bind_foreign self.now.declared.now.outlines.now self.now.declared.now.trees.now self.now.table.now self.now.name.now own.now name.now names.now at) result }
     {
         let columns = bind_names(alloc, self.table.columns.as_slice(), own)?;

@@ -14,8 +14,8 @@ use lint_core::Column;
 use sql_tree::{Element, NameTree, RuleTree};
 use std::alloc::Global;
 
-/// The keys of a table, as its rules name them: their columns. The primary key is the first that is
-/// written. A key whose names are not good is none.
+/// The keys of a table, as its rules name them: their columns. The primary key is the first that
+/// is written. A key whose names are not good is none.
 #[derive(Drop)]
 pub(crate) struct NamedKeys {
     pub(crate) primary: Option<Items<u32>>,
@@ -32,7 +32,8 @@ fn add_each<'t>(rules: &mut Vec<&'t RuleTree>, more: &'t [RuleTree]) -> Result<(
 }
 
 fn add_rules<'t>(rules: &mut Vec<&'t RuleTree>, element: &'t Element) -> Result<(), NoMemory>
-    ensures { OnOk result (behind rules.new.items ≡ behind rules.old.items ++ rules_in element.now) }
+    ensures { OnOk result
+        (behind rules.new.items ≡ behind rules.old.items ++ rules_in element.now) }
 {
     match element {
         Element::Column { rules: own, .. } => add_each(rules, own.as_slice())?,
@@ -165,7 +166,8 @@ fn unique_keys(
     columns: &[Column],
     keys: &[&RuleTree],
 ) -> Result<Items<Items<u32>>, NoMemory>
-    ensures { IfOk result (λ unique. unique ≡ filter_map (unique_columns columns.now) (behind keys.now)) }
+    ensures { IfOk result
+        (λ unique. unique ≡ filter_map (unique_columns columns.now) (behind keys.now)) }
 {
     let mut unique = Items::new(alloc);
     for rule in keys {
@@ -205,7 +207,8 @@ fn are_columns_of(columns: &[u32], key: &[u32]) -> bool
 }
 
 fn some_key_has(keys: &[Items<u32>], columns: &[u32]) -> bool
-    ensures { result ≡ list_any (λ key. are_columns_of columns.now (record { columns = key })) keys.now }
+    ensures { result ≡ list_any
+        (λ key. are_columns_of columns.now (record { columns = key })) keys.now }
 {
     keys.iter()
         .any(|key| are_columns_of(columns, key.as_slice()))
@@ -214,7 +217,8 @@ fn some_key_has(keys: &[Items<u32>], columns: &[u32]) -> bool
 impl NamedKeys {
     /// Whether the columns are, as a set, those of one of the keys, and as many.
     pub(crate) fn has(&self, columns: &[u32]) -> bool
-        ensures { result ≡ list_any (λ key. are_columns_of columns.now (record { columns = key })) (option_list self.now.primary ++ self.now.unique) }
+        ensures { result ≡ list_any (λ key. are_columns_of columns.now (record { columns = key }))
+            (option_list self.now.primary ++ self.now.unique) }
     {
         match &self.primary {
             Some(key) if are_columns_of(columns, key.as_slice()) => true,

@@ -8,8 +8,8 @@ use crate::bound::next;
 use lint_base::NoMemory;
 use lint_core::Entry;
 
-/// The FROM lists around a condition, from the inside out. Of a list the entries from `first` to before
-/// `end` are seen.
+/// The FROM lists around a condition, from the inside out. Of a list the entries from `first` to
+/// before `end` are seen.
 #[derive(Drop)]
 pub(crate) enum Levels<'a> {
     Outside,
@@ -56,11 +56,14 @@ impl Levels<'_> {
         }
     }
 
-    /// The table of an entry of a level, if that level has it; where there is no such level, how many
-    /// levels further in it would be.
+    /// The table of an entry of a level, if that level has it; where there is no such level, how
+    /// many levels further in it would be.
     fn look_up(&self, level: u32, entry: u32) -> Result<Option<u32>, u32>
-        ensures there { IfOk result (λ found. (level < length (level_tables (levels_seen self.now))) × (found ≡ at_entry (level_tables (levels_seen self.now)) level entry)) }
-        ensures further { IfErr result (λ more. more + length (level_tables (levels_seen self.now)) ≡ level) }
+        ensures there { IfOk result
+            (λ found. (level < length (level_tables (levels_seen self.now)))
+            × (found ≡ at_entry (level_tables (levels_seen self.now)) level entry)) }
+        ensures further { IfErr result
+            (λ more. more + length (level_tables (levels_seen self.now)) ≡ level) }
     {
         match self {
             Levels::Outside => Err(level),

@@ -39,7 +39,8 @@ impl<'a> NameTable<'a> {
     /// Adds a name if it is not there, and tells whether it was not.
     pub(crate) fn add(&mut self, name: &'a Str) -> Result<bool, NoMemory>
         ensures added { IfOk result (λ new. new ≡ not (is_some (name_place self.old name.now))) }
-        ensures names { OnOk result (self.new ≡ with_name (name_place self.old name.now) self.old name.now) }
+        ensures names { OnOk result
+            (self.new ≡ with_name (name_place self.old name.now) self.old name.now) }
         ensures err { OnErr result (self.new ≡ self.old) }
     {
         let new = self.names.insert(name.as_str())?;

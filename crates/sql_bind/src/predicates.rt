@@ -62,7 +62,8 @@ pub(crate) fn compare(
     right: &TermTree,
     span: Span,
 ) -> Result<Cond, TextStop>
-    ensures { Gives (cond_step tables.now (CondTree-F.Compare op left.now right.now span) (levels_seen levels.now)) result }
+    ensures { Gives (cond_step tables.now (CondTree-F.Compare op left.now right.now span)
+        (levels_seen levels.now)) result }
 {
     let left = bind_term(alloc, tables, left, levels)?;
     let right = bind_term(alloc, tables, right, levels)?;
@@ -89,7 +90,8 @@ pub(crate) fn is_null(
     negated: bool,
     span: Span,
 ) -> Result<Cond, TextStop>
-    ensures { Gives (cond_step tables.now (CondTree-F.IsNull term.now negated span) (levels_seen levels.now)) result }
+    ensures { Gives (cond_step tables.now (CondTree-F.IsNull term.now negated span)
+        (levels_seen levels.now)) result }
 {
     let term = bind_term(alloc, tables, term, levels)?;
     let fits = kind(tables, levels, &term).is_some();
@@ -154,7 +156,9 @@ pub(crate) fn bind_between(
     negated: bool,
     span: Span,
 ) -> Result<Cond, TextStop>
-    ensures { Gives (cond_step tables.now (CondTree-F.Between term.now low.now high.now negated span) (levels_seen levels.now)) result }
+    ensures { Gives (cond_step tables.now
+        (CondTree-F.Between term.now low.now high.now negated span)
+        (levels_seen levels.now)) result }
 {
     let first = Span {
         from: tree_span(term).from,
@@ -200,7 +204,8 @@ fn comparisons(
     term: &Term,
     values: Items<Value>,
 ) -> Result<Items<Cond>, NoMemory>
-    ensures { IfOk result (λ conds. conds ≡ map (λ v. cond.Compare op term.now v.term v.span) values) }
+    ensures { IfOk result
+        (λ conds. conds ≡ map (λ v. cond.Compare op term.now v.term v.span) values) }
 {
     let mut conds = Items::new(alloc);
     for value in values.into_vec() {
@@ -261,7 +266,8 @@ pub(crate) fn bind_in_list(
     negated: bool,
     span: Span,
 ) -> Result<Cond, TextStop>
-    ensures { Gives (cond_step tables.now (CondTree-F.InList term.now values.now negated span) (levels_seen levels.now)) result }
+    ensures { Gives (cond_step tables.now (CondTree-F.InList term.now values.now negated span)
+        (levels_seen levels.now)) result }
 {
     let term = bind_term(alloc, tables, term, levels)?;
     let values = bind_values(alloc, tables, levels, values.as_slice())?;
@@ -273,7 +279,8 @@ pub(crate) fn bind_in_list(
 
 /// Whether = compares a term with each value.
 fn compare_all(tables: &[Table], levels: &Levels, term: &Term, values: &[Value]) -> bool
-    ensures { result ≡ list_all (λ v. compares tables.now (levels_seen levels.now) Eq term.now v.term) values.now }
+    ensures { result ≡ list_all
+        (λ v. compares tables.now (levels_seen levels.now) Eq term.now v.term) values.now }
 {
     values.iter().all(|value| compares(tables, levels, Op::Eq, term, &value.term))
 }
@@ -288,7 +295,8 @@ pub(crate) fn one_column(alloc: Global, select: &BoundSelect) -> Result<Term, Te
     }
 }
 
-/// Whether an operator compares a term with what a subquery selects, which stands in the subquery's level.
+/// Whether an operator compares a term with what a subquery selects, which stands in the
+/// subquery's level.
 pub(crate) fn compares_selected(
     tables: &[Table],
     levels: &Levels,
@@ -297,7 +305,8 @@ pub(crate) fn compares_selected(
     select: &BoundSelect,
     item: &Term,
 ) -> bool
-    ensures { result ≡ compares_selected tables.now (levels_seen levels.now) op left.now select.now item.now }
+    ensures { result ≡ compares_selected tables.now
+        (levels_seen levels.now) op left.now select.now item.now }
 {
     let inner = Levels::whole(select.block.entries.as_slice(), &*levels);
     Kind::both_compare(op, kind(tables, levels, left), kind(tables, &inner, item))

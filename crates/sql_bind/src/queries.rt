@@ -183,10 +183,10 @@ fn bound_query(alloc: Global, tables: &[Table], tree: &QueryTree) -> Result<Quer
     limited_query(alloc, tree.select.distinct, tree.select.span, select, order)
 }
 
-/// The query that a tree of the grammar's shape binds to over a schema, or the first of the rules on names and
-/// kinds that it breaks: of each SELECT the entries of FROM are looked at first, then the items, then the ON
-/// conditions and WHERE; then ORDER BY, and at last the number of conditions. `NoMemory` where there is no
-/// memory for the query.
+/// The query that a tree of the grammar's shape binds to over a schema, or the first of the rules
+/// on names and kinds that it breaks: of each SELECT the entries of FROM are looked at first, then
+/// the items, then the ON conditions and WHERE; then ORDER BY, and at last the number of
+/// conditions. `NoMemory` where there is no memory for the query.
 pub fn bind_query(alloc: Global, schema: &Schema, tree: &QueryTree) -> Result<Query, TextStop>
     requires shaped { query_shaped tree.now ≡ true }
     ensures bound { Gives (bind_query schema.now tree.now) result }

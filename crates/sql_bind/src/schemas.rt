@@ -51,7 +51,8 @@ impl Constraints {
     }
 
     fn with_foreign(self, key: ForeignKey) -> Result<Constraints, NoMemory>
-        ensures { IfOk result (λ more. more ≡ record { primary = self.primary; unique = self.unique; checks = self.checks; foreign = self.foreign ++ key ∷ [] }) }
+        ensures { IfOk result
+            (λ more. more ≡ record { primary = self.primary; unique = self.unique; checks = self.checks; foreign = self.foreign ++ key ∷ [] }) }
     {
         let Constraints {
             primary,
@@ -97,7 +98,8 @@ fn copy_columns(alloc: Global, columns: &[Column]) -> Result<Items<Column>, NoMe
 
 /// The table with its constraints.
 fn whole_table(alloc: Global, table: &Table, constraints: Constraints) -> Result<Table, NoMemory>
-    ensures { IfOk result (λ whole. whole ≡ record { name = table.now.name; columns = table.now.columns; keys = spec.keys_of constraints; checks = constraints.checks; foreign = constraints.foreign }) }
+    ensures { IfOk result
+        (λ whole. whole ≡ record { name = table.now.name; columns = table.now.columns; keys = spec.keys_of constraints; checks = constraints.checks; foreign = constraints.foreign }) }
 {
     let Constraints {
         primary,
@@ -245,7 +247,8 @@ impl Home<'_> {
         earlier: Constraints,
         rule: &RuleTree,
     ) -> Result<Constraints, TextStop>
-        requires keys { self.now.declared.now.keys.now ≡ all_keys self.now.declared.now.trees.now 0 self.now.declared.now.outlines.now }
+        requires keys { self.now.declared.now.keys.now
+            ≡ all_keys self.now.declared.now.trees.now 0 self.now.declared.now.outlines.now }
         ensures { Gives (spec.bind_rule self.now.declared.now.outlines.now self.now.declared.now.trees.now self.now.table.now self.now.name.now self.now.number earlier rule.now) result }
     {
         match rule {
@@ -281,7 +284,8 @@ impl Home<'_> {
 
     /// The constraints of the rules of the table.
     fn bind_rules(&self, alloc: Global, rules: &[&RuleTree]) -> Result<Constraints, TextStop>
-        requires keys { self.now.declared.now.keys.now ≡ all_keys self.now.declared.now.trees.now 0 self.now.declared.now.outlines.now }
+        requires keys { self.now.declared.now.keys.now
+            ≡ all_keys self.now.declared.now.trees.now 0 self.now.declared.now.outlines.now }
         ensures { Gives (spec.bind_rules self.now.declared.now.outlines.now self.now.declared.now.trees.now self.now.table.now self.now.name.now self.now.number spec.no_constraints (behind rules.now)) result }
     {
         let mut constraints = Constraints::none(alloc);
@@ -402,9 +406,9 @@ fn bind_all(alloc: Global, trees: &[CreateTable]) -> Result<Items<Table>, TextSt
     second_pass(alloc, &outlines, trees, keys.as_slice())
 }
 
-/// The schema that these declarations bind to. The first rule that they break refuses them. Rules are
-/// looked at in two passes, of the tables with their columns, and of their keys, CHECKs and foreign keys,
-/// each in text order.
+/// The schema that these declarations bind to. The first rule that they break refuses them. Rules
+/// are looked at in two passes, of the tables with their columns, and of their keys, CHECKs and
+/// foreign keys, each in text order.
 ///
 /// `NoMemory` comes where memory runs out.
 pub fn bind_schema(alloc: Global, tables: &[CreateTable]) -> Result<Schema, TextStop>

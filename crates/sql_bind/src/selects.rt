@@ -72,7 +72,8 @@ fn of_table(
     span: Span,
 ) -> Result<Entry, TextStop>
     requires { span ≡ entry_span (entry_meaning tables.now tree.now) }
-    ensures { Gives (of_table tables.now earlier.now (entry_meaning tables.now tree.now) (table_place tables.now (out-EntryTree tree.now).table.text)) result }
+    ensures { Gives (of_table tables.now earlier.now (entry_meaning tables.now tree.now)
+        (table_place tables.now (out-EntryTree tree.now).table.text)) result }
 {
     let Some(table) = table_place(tables, &tree.table.text) else {
         return Err(refused(Fault::UnknownTable, tree.table.span));
@@ -95,7 +96,8 @@ fn bind_entry(
     earlier: &[Entry],
     tree: &EntryTree,
 ) -> Result<Entry, TextStop>
-    ensures { Gives (bind_entry tables.now earlier.now (entry_meaning tables.now tree.now)) result }
+    ensures { Gives (bind_entry tables.now earlier.now
+        (entry_meaning tables.now tree.now)) result }
 {
     let span = aliased_span(tree.table.span, &tree.alias);
     if earlier.len() >= MOST_ENTRIES {
@@ -111,7 +113,8 @@ pub(crate) fn bind_entries(
     tables: &[Table],
     trees: &[EntryTree],
 ) -> Result<Items<Entry>, TextStop>
-    ensures { Gives (bind_entries tables.now [] (map (entry_meaning tables.now) trees.now)) result }
+    ensures { Gives (bind_entries tables.now []
+        (map (entry_meaning tables.now) trees.now)) result }
 {
     let mut entries = Items::new(alloc);
     let mut rest = trees;
@@ -133,7 +136,9 @@ fn entry_columns(
     number: u32,
     at: Span,
 ) -> Result<Items<Selected>, NoMemory>
-    ensures { IfOk result (λ items. items ≡ column_items tables.now level number at 0 (columns_of tables.now entry.now)) }
+    ensures { IfOk result
+        (λ items. items ≡ column_items tables.now level number at 0
+        (columns_of tables.now entry.now)) }
 {
     let mut items = Items::new(alloc);
     let columns = columns_of(tables, entry);
@@ -190,7 +195,17 @@ fn written_item(
     alias: &Option<NameTree>,
     term: Term,
 ) -> Result<Items<Selected>, NoMemory>
-    ensures { IfOk result (λ items. items ≡ record { item = record { term = term; star = false; span = aliased_span (tree_span tree.now) alias.now }; alias = option_map (λ name. name.text) alias.now } ∷ []) }
+    ensures { IfOk result
+        (λ items. items ≡ record {
+          item = record {
+            term = term;
+            star = false;
+            span = aliased_span
+                (tree_span tree.now) alias.now;
+          };
+          alias = option_map (λ name. name.text) alias.now;
+        }
+        ∷ []) }
 {
     let span = aliased_span(tree_span(tree), alias);
     let alias = alias_text(alloc, alias)?;
@@ -214,7 +229,9 @@ fn numbered_columns(
     level: u32,
     at: Span,
 ) -> Result<Items<Selected>, NoMemory>
-    ensures { IfOk result (λ items. items ≡ column_items tables.now level number at 0 (columns_at tables.now entries.now number)) }
+    ensures { IfOk result
+        (λ items. items ≡ column_items tables.now level number at 0
+        (columns_at tables.now entries.now number)) }
 {
     match entries.get(number) {
         Some(entry) => entry_columns(alloc, tables, entry, level, counted(number)?, at),
@@ -241,7 +258,8 @@ fn all_items(
     count: usize,
     at: Span,
 ) -> Result<Items<Selected>, TextStop>
-    ensures { Gives (bind_item tables.now entries.now (levels_seen outer.now) count (tree.Star at)) result }
+    ensures { Gives (bind_item tables.now entries.now (levels_seen outer.now) count
+        (tree.Star at)) result }
 {
     let items = all_columns(alloc, tables, entries, outer.depth()?, at)?;
     at_most_256(count, at, items)
@@ -257,7 +275,8 @@ fn entry_items(
     table: &NameTree,
     at: Span,
 ) -> Result<Items<Selected>, TextStop>
-    ensures { Gives (entry_items tables.now entries.now (levels_seen outer.now) count table.now at (entry_place entries.now table.now.text)) result }
+    ensures { Gives (entry_items tables.now entries.now (levels_seen outer.now) count table.now at
+        (entry_place entries.now table.now.text)) result }
 {
     let Some(number) = entry_place(entries, &table.text) else {
         return Err(refused(Fault::UnknownTable, table.span));
@@ -277,7 +296,8 @@ fn one_item(
     term: &TermTree,
     alias: &Option<NameTree>,
 ) -> Result<Items<Selected>, TextStop>
-    ensures { Gives (bind_item tables.now entries.now (levels_seen outer.now) count (tree.Term term.now alias.now)) result }
+    ensures { Gives (bind_item tables.now entries.now (levels_seen outer.now) count
+        (tree.Term term.now alias.now)) result }
 {
     if count >= MOST_ITEMS {
         return Err(too_many(257, aliased_span(tree_span(term), alias)));
@@ -296,7 +316,8 @@ fn bind_item(
     count: usize,
     item: &ItemTree,
 ) -> Result<Items<Selected>, TextStop>
-    ensures { Gives (bind_item tables.now entries.now (levels_seen outer.now) count item.now) result }
+    ensures { Gives (bind_item tables.now entries.now
+        (levels_seen outer.now) count item.now) result }
 {
     match item {
         ItemTree::Star(at) => all_items(alloc, tables, entries, outer, count, *at),
@@ -318,7 +339,8 @@ pub(crate) fn bind_items(
     outer: &Levels,
     trees: &[ItemTree],
 ) -> Result<Items<Selected>, TextStop>
-    ensures { Gives (bind_items tables.now entries.now (levels_seen outer.now) 0 trees.now) result }
+    ensures { Gives (bind_items tables.now entries.now
+        (levels_seen outer.now) 0 trees.now) result }
 {
     let mut items = Items::new(alloc);
     let mut rest = trees;

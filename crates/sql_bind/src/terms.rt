@@ -72,7 +72,8 @@ fn found_among(
     first: u32,
     entries: &[Entry],
 ) -> Result<Found, NoMemory>
-    ensures { IfOk result (λ found. found ≡ found_among (places_named tables.now name.now first entries.now)) }
+    ensures { IfOk result
+        (λ found. found ≡ found_among (places_named tables.now name.now first entries.now)) }
 {
     let mut found = Found::Nowhere;
     let mut number = first;
@@ -109,7 +110,8 @@ fn in_entry(
     name: &Str,
     at: Span,
 ) -> Result<Term, TextStop>
-    ensures { Gives (in_entry tables.now (length (levels_seen outer.now)) (first + place) at (column_place (columns_at tables.now seen.now place) name.now)) result }
+    ensures { Gives (in_entry tables.now (length (levels_seen outer.now)) (first + place) at
+        (column_place (columns_at tables.now seen.now place) name.now)) result }
 {
     match column_place(columns_at(tables, seen, place), name) {
         Some(column) => Ok(Term::Cell {
@@ -122,10 +124,12 @@ fn in_entry(
     }
 }
 
-/// The column of a name that stands alone: that of the innermost FROM list with an entry that has it.
+/// The column of a name that stands alone: that of the innermost FROM list with an entry that has
+/// it.
 #[tactic(auto, unfolding(crate::specs::Names::find_unqualified))]
 fn find_unqualified(tables: &[Table], name: &NameTree, levels: &Levels) -> Result<Term, TextStop>
-    ensures { Gives (find_unqualified tables.now name.now.text name.now.span (levels_seen levels.now)) result }
+    ensures { Gives (find_unqualified tables.now name.now.text name.now.span
+        (levels_seen levels.now)) result }
 {
     match levels {
         Levels::Outside => Err(refused(Fault::UnknownColumn, name.span)),
@@ -152,7 +156,8 @@ fn find_unqualified(tables: &[Table], name: &NameTree, levels: &Levels) -> Resul
     }
 }
 
-/// The column of a name behind that of a table: that of the innermost FROM list with an entry of the name.
+/// The column of a name behind that of a table: that of the innermost FROM list with an entry of
+/// the name.
 #[tactic(auto, unfolding(crate::specs::Names::find_qualified))]
 fn find_qualified(
     tables: &[Table],
@@ -161,7 +166,8 @@ fn find_qualified(
     at: Span,
     levels: &Levels,
 ) -> Result<Term, TextStop>
-    ensures { Gives (find_qualified tables.now table.now.text name.now.text at (levels_seen levels.now)) result }
+    ensures { Gives (find_qualified tables.now table.now.text name.now.text at
+        (levels_seen levels.now)) result }
 {
     match levels {
         Levels::Outside => Err(refused(Fault::UnknownTable, at)),

@@ -21,8 +21,8 @@ pub enum Element {
     Rule(RuleTree),
 }
 
-/// A type. The place of a length is that of its number, or of the word CHAR or CHARACTER where there is
-/// none.
+/// A type. The place of a length is that of its number, or of the word CHAR or CHARACTER where
+/// there is none.
 #[derive(Drop)]
 pub enum TypeTree {
     Small,

@@ -18,8 +18,8 @@ pub enum OrderTree {
     Column(TermTree),
 }
 
-/// A SELECT. `distinct` is the place of the word. The place of a subquery runs from its left to its
-/// right parenthesis, that of the main SELECT over all its tokens, ORDER BY included.
+/// A SELECT. `distinct` is the place of the word. The place of a subquery runs from its left to
+/// its right parenthesis, that of the main SELECT over all its tokens, ORDER BY included.
 #[cycle(select)]
 #[derive(Drop)]
 pub struct SelectTree {
@@ -54,8 +54,8 @@ pub struct EntryTree {
     pub first: u32,
 }
 
-/// A condition. The place of a predicate runs from its first to its last token; a NOT before it does not
-/// count.
+/// A condition. The place of a predicate runs from its first to its last token; a NOT before it
+/// does not count.
 #[cycle(select)]
 #[derive(Drop)]
 pub enum CondTree {

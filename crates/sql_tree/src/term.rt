@@ -11,8 +11,8 @@ pub struct NameTree {
 /// A column or a literal.
 #[derive(Debug, Drop)]
 pub enum TermTree {
-    /// `[table .] name [+ n]`. `plus` is 0 where nothing is added. The place runs from the first to the
-    /// last token, what is added included.
+    /// `[table .] name [+ n]`. `plus` is 0 where nothing is added. The place runs from the first
+    /// to the last token, what is added included.
     Column {
         table: Option<NameTree>,
         name: NameTree,

@@ -1,5 +1,5 @@
-//! What the axioms say, and what accepted steps show with them. The functions call other laws and do nothing else:
-//! each contract is a law about the definitions in `specs/`.
+//! What the axioms say, and what accepted steps show with them. The functions call other laws and
+//! do nothing else: each contract is a law about the definitions in `specs/`.
 ghost use Rattle.std.specs.Prelude.{◌≡◌, true, false, List, []};
 ghost use Rattle.std.specs.List.{list_all};
 ghost use Rattle.lint_core.specs.declared.certificate.Step.{Step};
@@ -16,7 +16,8 @@ ghost use Rattle.sort_formula.specs.Sentences.{formula_fits};
 use crate::truths::{formulas_fit, formulas_say_truth};
 use formula_laws::accepted_steps_refute;
 
-/// The axioms of a schema fit it: their tables and columns exist, and they compare cells of one kind.
+/// The axioms of a schema fit it: their tables and columns exist, and they compare cells of one
+/// kind.
 pub fn axioms_fit()
     ensures { (schema : List Table) → is_schema schema ≡ true
         → list_all (λ (a : Stated). formula_fits schema a.sentence []) (axioms schema) ≡ true }

@@ -1,9 +1,11 @@
 //! Bound forms as texts that leave nothing out.
 //!
-//! - A schema: its tables with `|` between them. Of each its name, its columns with their domains, and then `key`,
+//! - A schema: its tables with `|` between them. Of each its name, its columns with their domains,
+//! and then `key`,
 //!   `check` and `foreign` before each of its keys, CHECKs and foreign keys.
-//! - A query: `distinct` with its place, the items, those of a star with `*`, `from` its block, `by` its order keys.
-//! - A block: in parentheses its entries, each by the number of its table and its visible name, and `where` its
+//! - A query: `distinct` with its place, the items, those of a star with `*`, `from` its block,
+//! `by` its order keys. - A block: in parentheses its entries, each by the number of its table and
+//! its visible name, and `where` its
 //!   condition. `of` a block is written behind the predicate whose subquery it is.
 //! - A cell: level, entry and column, and what is added to it.
 use lint_base::{NoMemory, Span};

@@ -111,8 +111,8 @@ fn push_answer(out: &mut String, answer: &Answer) -> Result<(), AllocError> {
     }
 }
 
-/// What the judge answers of the emptiness of a query of the first form: always, with the steps of the proof, or not
-/// always, with the row of the database that shows it.
+/// What the judge answers of the emptiness of a query of the first form: always, with the steps of
+/// the proof, or not always, with the row of the database that shows it.
 pub(crate) fn judged(alloc: Global, schema: &Schema, query: &Query) -> Result<String, NoMemory> {
     first_form_is_tested();
     if !query.fits(schema) || !query.is_first_form(schema) {

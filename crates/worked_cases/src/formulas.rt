@@ -109,8 +109,8 @@ fn shown_axiom(alloc: Global, stated: &Axiom) -> Result<String, NoMemory> {
     Ok(out)
 }
 
-/// The axiom of the schema with the number of the text, counted from 1, as a certificate's facts are; without a
-/// number, how many there are.
+/// The axiom of the schema with the number of the text, counted from 1, as a certificate's facts
+/// are; without a number, how many there are.
 pub(crate) fn axiom(alloc: Global, schema: &Schema, text: &str) -> Result<String, NoMemory> {
     let list = axioms(alloc, schema)?;
     if text.is_empty() {
@@ -139,8 +139,8 @@ fn level(alloc: Global, entry: u32) -> Result<Items<Items<u32>>, NoMemory>
     Ok(levels)
 }
 
-/// The formula that holds where the condition of a query that fits is true, or the one that holds where it is false.
-/// None for a query that is not from one table.
+/// The formula that holds where the condition of a query that fits is true, or the one that holds
+/// where it is false. None for a query that is not from one table.
 fn fitting_formula(
     alloc: Global,
     schema: &Schema,
@@ -165,8 +165,8 @@ fn fitting_formula(
     Ok(Some(formula))
 }
 
-/// The formula that holds where the condition of a query from one table is true, or the one that holds where it is
-/// false. None for other queries.
+/// The formula that holds where the condition of a query from one table is true, or the one that
+/// holds where it is false. None for other queries.
 fn formula_of(
     alloc: Global,
     schema: &Schema,
@@ -180,8 +180,8 @@ fn formula_of(
     }
 }
 
-/// The formula that holds where the condition of a query from one table is true, or the one that holds where it is
-/// false.
+/// The formula that holds where the condition of a query from one table is true, or the one that
+/// holds where it is false.
 pub(crate) fn condition(
     alloc: Global,
     schema: &Schema,
@@ -204,7 +204,8 @@ pub(crate) fn negated(alloc: Global, schema: &Schema, query: &Query) -> Result<S
 
 // ---- a formula in another place
 
-/// The formula that holds where the condition is true, in another place. The text is `NUMBERS at DEPTH`.
+/// The formula that holds where the condition is true, in another place. The text is `NUMBERS at
+/// DEPTH`.
 pub(crate) fn placed(
     alloc: Global,
     schema: &Schema,
@@ -245,8 +246,9 @@ fn shown_sentence(
     }
 }
 
-/// Of a copy of the formula that holds where the condition is true, under `Exists` the query's table: how many nodes
-/// the sentence has, and whether it fits the schema. With the text `alone`, of the copy without the `Exists`.
+/// Of a copy of the formula that holds where the condition is true, under `Exists` the query's
+/// table: how many nodes the sentence has, and whether it fits the schema. With the text `alone`,
+/// of the copy without the `Exists`.
 pub(crate) fn sentence(
     alloc: Global,
     schema: &Schema,

@@ -1,5 +1,5 @@
-//! What the lexer makes of a text. In the text `\xff` is the byte of that hexadecimal number, counted as one byte.
-//! `@22..27` is the place of the token that it stands behind.
+//! What the lexer makes of a text. In the text `\xff` is the byte of that hexadecimal number,
+//! counted as one byte. `@22..27` is the place of the token that it stands behind.
 use crate::texts::shown_stop;
 use lint_base::{NoMemory, Span};
 use sql_lex::{Kind, Sign, Token, lex, split_queries};

@@ -1,9 +1,10 @@
-//! Cases of the whole language, as data: each line of a case file asks something of a text and says, by hand, what
-//! comes. The program prints how many lines of each file came as they say, and each line that did not.
+//! Cases of the whole language, as data: each line of a case file asks something of a text and
+//! says, by hand, what comes. The program prints how many lines of each file came as they say, and
+//! each line that did not.
 //!
-//! It stands beside `sqllint`, over the same crates, and is no part of it; the layer above uses nothing of it, and
-//! nobody has to believe it. What it calls is proved where it stands; a case shows that the proved definitions say
-//! what was meant. `pages` tells how a line is read.
+//! It stands beside `sqllint`, over the same crates, and is no part of it; the layer above uses
+//! nothing of it, and nobody has to believe it. What it calls is proved where it stands; a case
+//! shows that the proved definitions say what was meant. `pages` tells how a line is read.
 #![tactic(auto)]
 
 mod bound;

@@ -1,5 +1,5 @@
-//! What conditions and constraints mean, in databases of a text. What is judged are copies, so that these are made
-//! too.
+//! What conditions and constraints mean, in databases of a text. What is judged are copies, so
+//! that these are made too.
 ghost use Rattle.std.specs.Prelude.{◌≡◌};
 ghost use Rattle.lint_core.specs.DatabaseFits.{has_few_rows};
 

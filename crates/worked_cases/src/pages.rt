@@ -1,15 +1,18 @@
-//! Pages of cases. A line `WORD TEXT => ANSWER` asks what the word says of the text; a line without `=>` is answered
-//! by `read`, and an answer that ends in `...` says how what comes begins. Empty lines and lines that begin with `#`
-//! say nothing. In a text `\n` is the end of a line, and `{3:ab}` is `ababab`.
+//! Pages of cases. A line `WORD TEXT => ANSWER` asks what the word says of the text; a line
+//! without `=>` is answered by `read`, and an answer that ends in `...` says how what comes
+//! begins. Empty lines and lines that begin with `#` say nothing. In a text `\n` is the end of a
+//! line, and `{3:ab}` is `ababab`.
 //!
 //! - `schema`, `query`: from here on the schema, or the query, of the page;
 //! - `tokens`, `pieces`: the tokens of a text, and the pieces of a query file;
 //! - `query_tree`, `schema_tree`: the tree of a text;
 //! - `tables`, `bound`: the bound form of the page's schema, and of its query;
-//! - `truth`, `meets`: the truth of the query's condition at a binding, and what the schema's first violation is;
+//! - `truth`, `meets`: the truth of the query's condition at a binding, and what the schema's
+//! first violation is;
 //! - `asked`, `refutes`: the questions that are asked of the query, and whether points refute one;
 //! - `axiom`, `holds`, `fails`: an axiom of the schema, and the formulas of the query's condition;
-//! - `negated`, `placed`, `sentence`: of the formula that holds, its negation, the same in another place, and how many
+//! - `negated`, `placed`, `sentence`: of the formula that holds, its negation, the same in another
+//! place, and how many
 //!   nodes it has as a sentence;
 //! - `empty`: whether the query's answer is always empty;
 //! - `file`: from here on a file of the page, its path and its bytes;

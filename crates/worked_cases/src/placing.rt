@@ -30,7 +30,8 @@ fn atom_is_below(atom: &Atom, count: u64) -> bool
     }
 }
 
-/// Whether each variable is below the number of quantifiers outside it, of which so many stand outside the formula.
+/// Whether each variable is below the number of quantifiers outside it, of which so many stand
+/// outside the formula.
 #[cycle(numbered)]
 fn is_numbered(formula: &Formula, outside: u64) -> bool
     ensures { result ≡ true → is_numbered_from outside formula.now ≡ true }
@@ -81,8 +82,8 @@ fn quantifiers_of_all(parts: &[Formula]) -> u64
     count
 }
 
-/// Whether the formula can be placed: each variable is bound in it or among so many outside it, and its quantifiers
-/// can be counted from the depth on.
+/// Whether the formula can be placed: each variable is bound in it or among so many outside it,
+/// and its quantifiers can be counted from the depth on.
 pub(crate) fn can_be_placed(formula: &Formula, outside: usize, depth: u32) -> bool
     ensures variables { result ≡ true → is_numbered_from outside formula.now ≡ true }
     ensures depth { result ≡ true → depth + quantifiers formula.now < 2 ^ 32 }

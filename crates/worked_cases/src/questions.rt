@@ -1,5 +1,6 @@
-//! Which questions are asked of a query, and what refutes them. A question is named by its code and the numbers of
-//! what it asks about, from 0: `E1`, `E3 0`, `E4 0 1`. As in `meaning`, copies are judged.
+//! Which questions are asked of a query, and what refutes them. A question is named by its code
+//! and the numbers of what it asks about, from 0: `E1`, `E3 0`, `E4 0 1`. As in `meaning`, copies
+//! are judged.
 use crate::meaning::{database_copy, shown_stop};
 use crate::texts::{points, value};
 use lint_base::NoMemory;
@@ -102,8 +103,8 @@ struct Asking<'a> {
     at: &'a str,
 }
 
-/// What a text asks, if it has the form `QUESTION: ROWS at POINTS`, or `QUESTION given VALUE: ROWS at POINTS`. The
-/// value is NULL where none is given.
+/// What a text asks, if it has the form `QUESTION: ROWS at POINTS`, or `QUESTION given VALUE: ROWS
+/// at POINTS`. The value is NULL where none is given.
 fn asking_of<'a>(alloc: Global, text: &'a str) -> Result<Option<Asking<'a>>, NoMemory> {
     let (asked, rest) = text.split_once(": ").unwrap_or((text, ""));
     let Some((rows, at)) = rest.split_once(" at ") else {

@@ -1,4 +1,5 @@
-//! The trees of texts, whole. `@22..27` is a place: that of the word, the name or the predicate that it stands behind.
+//! The trees of texts, whole. `@22..27` is a place: that of the word, the name or the predicate
+//! that it stands behind.
 use crate::texts::{query_tree, schema_trees, shown_stop};
 use lint_base::{NoMemory, Span};
 use lint_tables::Op;

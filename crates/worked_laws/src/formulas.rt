@@ -1,5 +1,5 @@
-//! The translations, sentences and accepted steps by small examples. The functions do nothing: each contract is facts about the
-//! definitions in `specs/`.
+//! The translations, sentences and accepted steps by small examples. The functions do nothing:
+//! each contract is facts about the definitions in `specs/`.
 ghost use Rattle.std.specs.Prelude.{◌≡◌, pos, neg_ℤ, true, false, List, [], ◌∷◌, ◌++◌, take, Some, None};
 ghost use Rattle.lint_tables.specs.declared.op.Op.TheVariants.{Ne};
 ghost use Rattle.lint_core.specs.declared.condition.Cond.TheVariants.{Compare};
@@ -21,33 +21,47 @@ ghost use Rattle.sort_formula.specs.Sentences.{is_sentence, formula_fits};
 ghost use Rattle.lint_core.specs.declared.scope.Scope.{Scope};
 ghost use Rattle.sort_formula.specs.Translation.{is_true_formula};
 
-/// That a column differs from 5 says that it is at most 4 or at least 6; a key says of any two rows that they are
-/// one, or one has a NULL, or the columns differ. DISTINCT is needed where two rows are not distinct: both NULL, or equal.
+/// That a column differs from 5 says that it is at most 4 or at least 6; a key says of any two
+/// rows that they are one, or one has a NULL, or the columns differ. DISTINCT is needed where two
+/// rows are not distinct: both NULL, or equal.
 pub fn worked_formulas()
-    ensures differs { let scope : Scope = record { levels = (0 ∷ []) ∷ []; tables = (0 ∷ []) ∷ []; depth = 1 } in
+    ensures differs { let scope : Scope = record {
+      levels = (0 ∷ []) ∷ [];
+      tables = (0 ∷ [])
+          ∷ [];
+      depth = 1;
+    } in
         is_true_formula plain (Compare Ne the_column (number 5) nowhere) scope
         ≡ Or (Fact (Le (Cell 0 0) Zero (pos 4)) ∷ Fact (Le Zero (Cell 0 0) (neg_ℤ (pos 6))) ∷ []) }
     ensures key { axioms unique ≡ record {
       sentence = Forall 0 (Forall 0 (Or (Fact (Same 0 1) ∷ Fact (IsNull 0 0) ∷ Fact (IsNull 1 0)
-          ∷ Fact (Le (Cell 0 0) (Cell 1 0) (neg_ℤ (pos 1))) ∷ Fact (Le (Cell 1 0) (Cell 0 0) (neg_ℤ (pos 1))) ∷ [])));
+          ∷ Fact (Le (Cell 0 0) (Cell 1 0) (neg_ℤ (pos 1)))
+          ∷ Fact (Le (Cell 1 0) (Cell 0 0) (neg_ℤ (pos 1))) ∷ [])));
       key = None;
     } ∷ [] }
     ensures no_constraint { axioms plain ≡ [] }
     ensures needless_distinct { counter_sentence plain select_distinct NeedlessDistinct Null
         ≡ Exists 0 (Exists 0 (And (And [] ∷ And [] ∷ Or (Fact (Other 0 1) ∷ [])
         ∷ Or (And (Fact (IsNull 0 0) ∷ Fact (IsNull 1 0) ∷ [])
-        ∷ And (Fact (Le (Cell 0 0) (Cell 1 0) (pos 0)) ∷ Fact (Le (Cell 1 0) (Cell 0 0) (pos 0)) ∷ []) ∷ []) ∷ []))) }
+        ∷ And (Fact (Le (Cell 0 0) (Cell 1 0) (pos 0)) ∷ Fact (Le (Cell 1 0) (Cell 0 0) (pos 0))
+        ∷ []) ∷ []) ∷ []))) }
 {}
 
-/// A counter sentence is a lead and a body, and the places of the leading rows make points. Of a scalar subquery in a
-/// query there are two rows of its entry beside one of the query's; of DISTINCT two rows of each entry; of a needless
-/// join one row of each other entry, and none or two of the one in the middle.
+/// A counter sentence is a lead and a body, and the places of the leading rows make points. Of a
+/// scalar subquery in a query there are two rows of its entry beside one of the query's; of
+/// DISTINCT two rows of each entry; of a needless join one row of each other entry, and none or
+/// two of the one in the middle.
 pub fn worked_counters()
     ensures two_rows_inside { counter plain above_the_row (OneRow 0) Null
-        ≡ record { lead = 0 ∷ 0 ∷ 0 ∷ []; body = And (And [] ∷ And [] ∷ Or (Fact (Other 1 2) ∷ []) ∷ []) } }
+        ≡ record {
+          lead = 0 ∷ 0 ∷ 0
+              ∷ [];
+          body = And (And [] ∷ And [] ∷ Or (Fact (Other 1 2) ∷ []) ∷ []);
+        } }
     ensures two_inside { points_of above_the_row (OneRow 0) (5 ∷ 6 ∷ 7 ∷ []) None
         ≡ Two (rows ((5 ∷ []) ∷ (6 ∷ []) ∷ [])) (rows ((5 ∷ []) ∷ (7 ∷ []) ∷ [])) }
-    ensures two_of_the_entry { (counter plain select_distinct NeedlessDistinct Null).lead ≡ 0 ∷ 0 ∷ [] }
+    ensures two_of_the_entry { (counter plain select_distinct NeedlessDistinct Null).lead ≡ 0 ∷ 0
+        ∷ [] }
     ensures two_apart { points_of select_distinct NeedlessDistinct (3 ∷ 4 ∷ []) None
         ≡ Two (rows ((3 ∷ []) ∷ [])) (rows ((4 ∷ []) ∷ [])) }
     ensures none_or_two { counter plain middle (NeedlessJoin 1) Null
@@ -55,13 +69,14 @@ pub fn worked_counters()
           lead = 0 ∷ 2 ∷ [];
           body = And (And [] ∷ Or (Forall 1 (Or []) ∷ Exists 1 (Exists 1 (And (And [] ∷ And [] ∷ Fact (Other 2 3) ∷ []))) ∷ []) ∷ []);
         } }
-    ensures none_fits { points_of middle (NeedlessJoin 1) (4 ∷ 6 ∷ []) None ≡ Without (rows ((4 ∷ 6 ∷ []) ∷ [])) }
+    ensures none_fits { points_of middle (NeedlessJoin 1) (4 ∷ 6 ∷ []) None
+        ≡ Without (rows ((4 ∷ 6 ∷ []) ∷ [])) }
     ensures two_fit { points_of middle (NeedlessJoin 1) (4 ∷ 6 ∷ []) (Some (8, 9))
         ≡ Two (rows ((4 ∷ 8 ∷ 6 ∷ []) ∷ [])) (rows ((4 ∷ 9 ∷ 6 ∷ []) ∷ [])) }
 {}
 
-/// Steps that name the right facts are accepted; not so where one names another fact, where some are left out, or
-/// where the two texts that a chain joins are the same.
+/// Steps that name the right facts are accepted; not so where one names another fact, where some
+/// are left out, or where the two texts that a chain joins are the same.
 pub fn worked_steps()
     ensures key { accepts unique two_rows_agree (refuted_by_key 9) ≡ true }
     ensures misnamed { accepts unique two_rows_agree (refuted_by_key 8) ≡ false }
@@ -77,22 +92,25 @@ pub fn worked_wrong_steps()
     ensures misnamed { wrong_step unique two_rows_agree (refuted_by_key 8) ≡ Some 7 }
     ensures no_step { wrong_step unique two_rows_agree [] ≡ Some 1 }
     ensures last_missing { wrong_step texts (is_both 97 98) (take 2 refuted_by_texts) ≡ Some 3 }
-    ensures left_over { wrong_step texts (is_both 97 98) (refuted_by_texts ++ refuted_by_texts) ≡ Some 4 }
+    ensures left_over { wrong_step texts (is_both 97 98) (refuted_by_texts ++ refuted_by_texts)
+        ≡ Some 4 }
     ensures one_text { wrong_step texts (is_both 97 97) refuted_by_texts ≡ Some 3 }
 {}
 
-/// A comparison fails where its cell is NULL or where the opposite one holds, up to the ends of i128. In another place
-/// the two variables of `Same` are those that they are renamed to.
+/// A comparison fails where its cell is NULL or where the opposite one holds, up to the ends of
+/// i128. In another place the two variables of `Same` are those that they are renamed to.
 pub fn worked_rewritings()
     ensures greatest { negated (at_most 0 (pos 170141183460469231731687303715884105727))
-        ≡ Or (Fact (IsNull 0 0) ∷ Fact (Le Zero (Cell 0 0) (neg_ℤ (pos 170141183460469231731687303715884105728))) ∷ []) }
+        ≡ Or (Fact (IsNull 0 0)
+        ∷ Fact (Le Zero (Cell 0 0) (neg_ℤ (pos 170141183460469231731687303715884105728))) ∷ []) }
     ensures least { negated (at_most 0 (neg_ℤ (pos 170141183460469231731687303715884105728)))
-        ≡ Or (Fact (IsNull 0 0) ∷ Fact (Le Zero (Cell 0 0) (pos 170141183460469231731687303715884105727)) ∷ []) }
+        ≡ Or (Fact (IsNull 0 0)
+        ∷ Fact (Le Zero (Cell 0 0) (pos 170141183460469231731687303715884105727)) ∷ []) }
     ensures renamed { placed (2 ∷ 0 ∷ []) 3 (Fact (Same 0 1)) ≡ Fact (Same 2 0) }
 {}
 
-/// Bounds of a sentence lie within plus and minus 2^66, and `Same` joins rows of one table. A sentence fits a schema
-/// where its tables exist and `Le` compares numbers.
+/// Bounds of a sentence lie within plus and minus 2^66, and `Same` joins rows of one table. A
+/// sentence fits a schema where its tables exist and `Le` compares numbers.
 pub fn worked_sentences()
     ensures greatest { is_sentence (Exists 0 (at_most 0 (pos 73786976294838206464))) ≡ true }
     ensures above { is_sentence (Exists 0 (at_most 0 (pos 73786976294838206465))) ≡ false }
