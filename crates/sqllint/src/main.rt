@@ -2,8 +2,9 @@
 //!
 //! What is proved stands on `program::run`, for every shelf and every sink. `host` is the trusted
 //! edge. Of `specs/` a reader must believe `Words`, `Text` (the bytes), `RightRun` (what a run says of the
-//! queries), `Stops` (when each stop comes), `Status` and `Written`. `laws` proves of `Text` that five runs, and
-//! the steps of every kind, have the texts that are known by hand.
+//! queries), `PrintedAlways` (what its answers `always` mean), `Stops` (when each stop comes), `Status` and
+//! `Written`. `laws` proves of `Text` that five runs, and the steps of every kind, have the texts that are
+//! known by hand.
 //!
 //! Wrong bodies that the contracts let through, and why that is right: a `HostShelf` that reads nothing,
 //! and reads and writes of the system's that always fail (no clause can say what a file or a terminal
@@ -14,6 +15,7 @@
 mod host;
 mod laws;
 mod outcome;
+mod printed;
 mod program;
 mod reading;
 mod report;
