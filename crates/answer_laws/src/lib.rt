@@ -1,16 +1,18 @@
-//! The laws that join the questions of a query to its answer, a bag of rows, in one database. The functions do
-//! nothing: each contract is a law about the definitions in `lint_core`.
+//! The laws that join the questions of a query to its answer, a bag of rows, in one database. The
+//! functions do nothing: each contract is a law about the definitions in `lint_core`.
 //!
-//! A query has an answer exactly where each of its scalar subqueries gives at most one row (E9). There its condition
-//! is inconsistent exactly where the answer is empty (E1), DISTINCT is needless exactly where it removes no row
-//! (E2), a column is constant, and two columns are equal, exactly where they are so in each row of the answer (E3,
-//! E4), and an implied or impossible predicate leaves the answer as it is with TRUE or FALSE in its place (E6, E7).
+//! A query has an answer exactly where each of its scalar subqueries gives at most one row (E9).
+//! There its condition is inconsistent exactly where the answer is empty (E1), DISTINCT is
+//! needless exactly where it removes no row (E2), a column is constant, and two columns are
+//! equal, exactly where they are so in each row of the answer (E3, E4), and an implied or
+//! impossible predicate leaves the answer as it is with TRUE or FALSE in its place (E6, E7).
 //!
-//! `always_means` says of each question that is asked what it means that it holds in every database that meets the
-//! schema: of the answer, and where the question asks of bindings (E5, E8, E9, E10) of these.
+//! `always_means` says of each question that is asked what it means that it holds in every
+//! database that meets the schema: of the answer, and where the question asks of bindings (E5,
+//! E8, E9, E10) of these.
 //!
-//! Of `specs/` a reader must believe `AlwaysMeans`, with `FindsOneRow`, and `Answers`, the words of these laws;
-//! `worked_bags` shows some by small examples.
+//! Of `specs/` a reader must believe `AlwaysMeans`, with `FindsOneRow`, and `Answers`, the words
+//! of these laws; `worked_bags` shows some by small examples.
 #![tactic(auto)]
 
 mod always;

@@ -146,8 +146,9 @@ module _ (db : Database) (query : Query) where
   abbrev pub refutes : Question → Value → Points → Bool
   refutes question given points = is_known_true (outcome question given points)
 
-  -- no points refute the question. Points at which it cannot be decided refute nothing; there are such only where
-  -- some scalar subquery gives two rows
+  -- no points refute the question. Points at which it cannot be decided refute nothing; of a question that is asked there
+  -- are such only where some scalar subquery gives two rows: the law `outcomes_are_decided_where_earlier_questions_hold`
+  -- of `question_truths`
   abbrev pub HoldsIn : Question → Value → Type 0
   HoldsIn question given = (points : Points) → refutes question given points ≡ false
 

@@ -14,8 +14,8 @@ ghost use Rattle.sort_formula.specs.Counters.{counter_sentence};
 
 use truth_laws::{accepted_sentence_fails, formulas_say_truth};
 
-/// Of every query that fits: where steps refute the counter sentence of E1, the answer is empty in
-/// every database that meets the schema.
+/// Of every query that fits: where steps refute the counter sentence of E1, it holds in every database that meets the
+/// schema. So the answer is empty in each of them in which the query has one: where no scalar subquery gives two rows.
 pub fn certified_question_holds()
     ensures { (schema : List Table) → is_schema schema ≡ true
         → (query : Query) → query_fits schema query ≡ true

@@ -1,3 +1,4 @@
 pub mod Appends
 pub mod Entries
 pub mod Quotes
+pub mod PrintedAlways

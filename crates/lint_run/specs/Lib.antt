@@ -2,6 +2,7 @@ pub mod Words
 pub mod Text
 pub mod Worked
 pub mod RightRun
+pub mod PrintedAlways
 pub mod Stops
 pub mod Status
 pub mod Written

@@ -2,9 +2,9 @@
 //!
 //! The layer above uses `run` with what it answers, `Outcome`, `Stop` and `Which`. Of `specs/` a
 //! reader must believe `Words`, `Text` (the bytes), `RightRun` (what a run says of the queries),
-//! `Stops` (when each stop comes), `Status` and `Written`; `inner/` is cited by private functions
-//! alone. `laws` proves of `Text` that five runs, and the steps of every kind, have the texts that
-//! are known by hand.
+//! `PrintedAlways` (what its answers `always` mean), `Stops` (when each stop comes), `Status` and
+//! `Written`; `inner/` is cited by private functions alone. `laws` proves of `Text` that five runs,
+//! and the steps of every kind, have the texts that are known by hand.
 //!
 //! What was written is said where the sink tells its contents, and what the files hold where the
 //! shelf tells its files; of a shelf or a sink that tells neither the clauses speak of counts and
@@ -15,10 +15,12 @@
 mod judging;
 mod laws;
 mod outcome;
+mod printed;
 mod program;
 mod report;
 mod words;
 
 pub use laws::worked_texts;
 pub use outcome::{Outcome, Stop, Which};
+pub use printed::printed_always_is_meant;
 pub use program::run;

@@ -1,6 +1,7 @@
 //! A run of the program, over any shelf and any sink.
 ghost use Rattle.std.specs.Prelude.{◌≡◌, ◌≤◌, ℕ, List, [], Option, Some, None, length, map, string_bytes, IfOk, OnOk, OnErr};
 ghost use Rattle.std.specs.List.{list_any};
+ghost use Rattle.lint_run.specs.PrintedAlways.{PrintedAlways};
 ghost use Rattle.lint_run.specs.Status.{is_finding, has_finding, is_unjudged, queries_status as status_of_queries, status_of};
 ghost use Rattle.lint_run.specs.Stops.{is_no_memory, Told, told, IsUnbegun, HasCauseAt, HasCause};
 ghost use Rattle.lint_run.specs.Text.{run_text};
@@ -9,6 +10,7 @@ ghost use Rattle.lint_run.specs.Written.{sunk, EndsRight};
 
 use crate::judging::{queries_at, schema_at};
 use crate::outcome::{Outcome, Stop};
+use crate::printed::printed_always_is_meant;
 use crate::report::text_of;
 use crate::words::files_named;
 use lint_base::{Items, Shelf, Sink, WriteStop, write_text};
@@ -230,8 +232,12 @@ pub fn run<H: Shelf, K: Sink>(
         (told H.open_faults H.read_faults H.failed_path H.opened_path H.given shelf.new)
         (sunk K.faults K.contents out.old)
         (sunk K.faults K.contents out.new) result.run result.stop }
+    // Each answer `always`, with a stop or without, means what `AlwaysMeans` says of its question.
+    ensures always { PrintedAlways result.run }
     ensures status { result.status ≡ status_of result.stop result.run }
 {
     let judged = judge_words(alloc, shelf, words);
-    written(alloc, judged, out)
+    let outcome = written(alloc, judged, out);
+    printed_always_is_meant();
+    outcome
 }

@@ -1,8 +1,9 @@
 //! What conditions and their formulas depend on.
 //!
-//! The layer above may cite the laws. Of `specs/` a reader must believe `Named` (which entries of any level a condition
-//! names), `Alike` (that two standpoints have the same rows for what it names) and `Deeper`; the formulas are those of
-//! `Translation` of `sort_formula`, and a standpoint for a binding is its `Standpoint`.
+//! The layer above may cite the laws. Of `specs/` a reader must believe `Named` (which entries of
+//! any level a condition names), `Alike` (that two standpoints have the same rows for what it
+//! names) and `Deeper`; the formulas are those of `Translation` of `sort_formula`, and a
+//! standpoint for a binding is its `Standpoint`.
 #![tactic(auto)]
 
 mod laws;

@@ -1,8 +1,10 @@
-//! Where questions are decided, and what their parts need: that the parts of a query that fits do so, with room for them.
+//! Where questions are decided, and what their parts need: that the parts of a query that fits do
+//! so, with room for them.
 //!
-//! The layer above may cite the laws. Of `specs/` a reader must believe `AtMostOne` (when a scalar subquery gives at most
-//! one row), `SubqueryFits` (when a subquery fits with all its levels) and `Room` (how many entries some levels have); the
-//! questions, their points and outcomes are those of `Question` of `lint_core`.
+//! The layer above may cite the laws. Of `specs/` a reader must believe `AtMostOne` (when a
+//! scalar subquery gives at most one row), `SubqueryFits` (when a subquery fits with all its
+//! levels) and `Room` (how many entries some levels have); the questions, their points and
+//! outcomes are those of `Question` of `lint_core`.
 #![tactic(auto)]
 
 mod laws;

@@ -12,5 +12,6 @@ ghost use Rattle.worked_laws.specs.Unasked.{beside_an_empty_table, two_and_none}
 pub fn worked_unasked()
     ensures earlier_hold { EarlierHold two_and_none beside_an_empty_table (NeedlessJoin 1) }
     ensures undecided { outcome two_and_none beside_an_empty_table (NeedlessJoin 1) Null
-        (Without (rows ((0 ∷ []) ∷ []))) ≡ Err nowhere }
+        (Without (rows ((0 ∷ []) ∷ [])))
+        ≡ Err nowhere }
 {}
