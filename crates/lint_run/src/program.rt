@@ -208,16 +208,16 @@ fn written<K: Sink>(alloc: Global, judged: Judged, out: &mut K) -> Outcome
 /// Reads the two files that the words name, judges the queries and writes the report, or the line
 /// of what ended the run early.
 ///
-/// | Stop | Comes |
-/// |---|---|
-/// | `WordsRefused` | exactly where the words are not two files; nothing is read |
-/// | `OpenFault`, `ReadFault` | only where the shelf's count of that fault rose, at the file that
-/// the stop names |
-/// | `TooLong` | exactly where the shelf gave more than 1,048,576 bytes of the file |
-/// | `SchemaRefused` | exactly where the schema file's bytes, tokens or names break a rule of the
-/// language | | `WriteFault` | only where the sink's count rose; it replaces the stop whose line
-/// was being written |
-/// | `NoMemory` | where memory ran out |
+/// The stops, and when each comes:
+/// - `WordsRefused`: exactly where the words are not two files; nothing is read;
+/// - `OpenFault`, `ReadFault`: only where the shelf's count of that fault rose, at the file that the
+///   stop names;
+/// - `TooLong`: exactly where the shelf gave more than 1,048,576 bytes of the file;
+/// - `SchemaRefused`: exactly where the schema file's bytes, tokens or names break a rule of the
+///   language;
+/// - `WriteFault`: only where the sink's count rose; it replaces the stop whose line was being
+///   written;
+/// - `NoMemory`: where memory ran out.
 pub fn run<H: Shelf, K: Sink>(
     alloc: Global,
     words: &[String],
