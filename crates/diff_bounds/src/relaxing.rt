@@ -31,7 +31,8 @@ pub fn solve(alloc: Global, vars: u32, edges: &[Edge]) -> Result<Solved, NoMemor
     requires variables { vars ≤ 32769 }
     requires few { length edges.now ≤ 2 ^ 20 }
     ensures count { IfOk result (λ s. IfValues s (λ values. length values ≡ vars)) }
-    ensures satisfied { IfOk result (λ s. IfValues s (λ values. Satisfies (value_in values) edges.now)) }
+    ensures satisfied { IfOk result (λ s.
+        IfValues s (λ values. Satisfies (value_in values) edges.now)) }
     ensures cycle { IfOk result (λ s. IfRing s (λ ring. IsNegativeRing edges.now ring)) }
     ensures short { IfOk result (λ s. IfRing s (λ ring. length ring ≤ vars)) }
     ensures simple { IfOk result (λ s. IfRing s (λ ring. IsSimple edges.now ring)) }
@@ -49,7 +50,8 @@ impl Search {
     /// Every variable starts at 0; no edge has lowered it yet.
     fn new(alloc: Global, vars: u32) -> Result<Search, NoMemory>
         ensures sound { IfOk result (λ search. (edges : List Edge) → IsSound edges vars search) }
-        ensures ends { IfOk result (λ search. (edges : List Edge) → AllEnd edges search.reasons.items) }
+        ensures ends { IfOk result (λ search.
+            (edges : List Edge) → AllEnd edges search.reasons.items) }
     {
         let mut values = Vec::new(alloc);
         for _ in 0..vars {
@@ -126,7 +128,8 @@ fn find_ring(
     requires reasons { AreReasons edges.now reasons.now }
     ensures { let vars = length reasons.now in
         let IsFound = λ (ring : List ℕ). IsAnswerRing edges.now vars ring in
-        IfOk result (λ found. MatchOption found (AllEnd edges.now reasons.now) (λ c. IsFound c.items)) }
+        IfOk result (λ found.
+        MatchOption found (AllEnd edges.now reasons.now) (λ c. IsFound c.items)) }
 {
     let mut marks = nones(alloc, reasons.len())?;
     for root in 0..reasons.len() as u32 {
