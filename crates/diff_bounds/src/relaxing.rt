@@ -1,5 +1,5 @@
-//! Edges are relaxed in turn until each holds, or until the edges that last lowered the values
-//! close a ring.
+//! Edges are relaxed in turn until each holds, or until the edges that last lowered the values close
+//! a ring.
 ghost use Rattle.std.specs.Prelude.{ℕ, ◌<◌, ◌≤◌, ◌+◌, ◌^◌, ◌++◌, ◌≡◌, IfOk, MatchOption};
 ghost use Rattle.std.specs.Prelude.{List, All, length, None, replicate};
 ghost use Rattle.diff_bounds.specs.declared.system.Edge.{Edge};
@@ -21,9 +21,8 @@ struct Search {
     reasons: Vec<Option<u32>>,
 }
 
-/// Values for the variables 0 to `vars` - 1 that satisfy every edge, or the edges of a ring: a
-/// closed chain whose bounds have a negative sum, and in which no two edges have the same left
-/// end.
+/// Values for the variables 0 to `vars` - 1 that satisfy every edge, or the edges of a ring: a closed
+/// chain whose bounds have a negative sum, and in which no two edges have the same left end.
 ///
 /// `NoMemory` when memory runs out, and in no other case.
 pub fn solve(alloc: Global, vars: u32, edges: &[Edge]) -> Result<Solved, NoMemory>
@@ -32,8 +31,8 @@ pub fn solve(alloc: Global, vars: u32, edges: &[Edge]) -> Result<Solved, NoMemor
     requires variables { vars ≤ 32769 }
     requires few { length edges.now ≤ 2 ^ 20 }
     ensures count { IfOk result (λ s. IfValues s (λ values. length values ≡ vars)) }
-    ensures satisfied { IfOk result
-        (λ s. IfValues s (λ values. Satisfies (value_in values) edges.now)) }
+    ensures satisfied { IfOk result (λ s.
+        IfValues s (λ values. Satisfies (value_in values) edges.now)) }
     ensures cycle { IfOk result (λ s. IfRing s (λ ring. IsNegativeRing edges.now ring)) }
     ensures short { IfOk result (λ s. IfRing s (λ ring. length ring ≤ vars)) }
     ensures simple { IfOk result (λ s. IfRing s (λ ring. IsSimple edges.now ring)) }
@@ -51,8 +50,8 @@ impl Search {
     /// Every variable starts at 0; no edge has lowered it yet.
     fn new(alloc: Global, vars: u32) -> Result<Search, NoMemory>
         ensures sound { IfOk result (λ search. (edges : List Edge) → IsSound edges vars search) }
-        ensures ends { IfOk result (λ search. (edges : List Edge)
-            → AllEnd edges search.reasons.items) }
+        ensures ends { IfOk result (λ search.
+            (edges : List Edge) → AllEnd edges search.reasons.items) }
     {
         let mut values = Vec::new(alloc);
         for _ in 0..vars {
@@ -129,8 +128,8 @@ fn find_ring(
     requires reasons { AreReasons edges.now reasons.now }
     ensures { let vars = length reasons.now in
         let IsFound = λ (ring : List ℕ). IsAnswerRing edges.now vars ring in
-        IfOk result (λ found. MatchOption found (AllEnd edges.now reasons.now)
-        (λ c. IsFound c.items)) }
+        IfOk result (λ found.
+        MatchOption found (AllEnd edges.now reasons.now) (λ c. IsFound c.items)) }
 {
     let mut marks = nones(alloc, reasons.len())?;
     for root in 0..reasons.len() as u32 {
@@ -148,8 +147,8 @@ fn find_ring(
     Ok(None)
 }
 
-/// Marks the variables on the chain of reasons from `root` by it, up to one that has a mark. An
-/// edge that leads back onto this chain is the answer.
+/// Marks the variables on the chain of reasons from `root` by it, up to one that has a mark. An edge
+/// that leads back onto this chain is the answer.
 fn mark(
     edges: &[Edge],
     reasons: &[Option<u32>],

@@ -9,7 +9,6 @@ use Rattle.lint_base.proofs.Lists.{get_before, slice_get_last}
 use Rattle.lint_core.specs.Database.{below}
 use Rattle.lint_core.specs.Fits.{tables_of}
 use Rattle.lint_core.specs.declared.condition.Entry.{Entry}
-use Rattle.lint_core.specs.declared.scope.Scope.{Scope}
 use Rattle.sort_formula.specs.Sides.{from_number}
 use Rattle.truth_formula.specs.inner.Standing.{Numbered, numbered, numbered_step}
 use Rattle.truth_formula.specs.declared.standing.Variables.{Variables, fold-roll-Variables}
@@ -21,9 +20,6 @@ pub numbered_inside : (entries : Bor (List Entry)) (outer : Bor Variables) → n
   depth = (numbered outer.now).depth + length (tables_of entries.now);
 }
 numbered_inside entries outer = ap numbered (sym (variables.rolls-Inside entries outer)) ∙ fold-roll-Variables Numbered numbered_step (Variables-F.Inside entries outer)
-
-pub numbered_given : (scope : Bor Scope) → numbered (variables.Given scope) ≡ record { levels = scope.now.levels; depth = scope.now.depth }
-numbered_given scope = ap numbered (sym (variables.rolls-Given scope)) ∙ fold-roll-Variables Numbered numbered_step (Variables-F.Given scope)
 
 -- ---- the numbers from a number on
 

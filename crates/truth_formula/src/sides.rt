@@ -70,7 +70,11 @@ fn bound(
     less: u8,
 ) -> Result<Formula, NoMemory>
     requires { (scope_of standing.now).depth < 2 ^ 32 }
-    ensures formula { IfOk result (λ made. made ≡ f.Atom (atom.Le (side_of tables.now (scope_of standing.now) lesser.now) (side_of tables.now (scope_of standing.now) greater.now) (added_to tables.now (scope_of standing.now) greater.now -ℤ added_to tables.now (scope_of standing.now) lesser.now -ℤ pos less))) }
+    ensures formula { IfOk result (λ made. made ≡ f.Atom (atom.Le
+        (side_of tables.now (scope_of standing.now) lesser.now)
+        (side_of tables.now (scope_of standing.now) greater.now)
+        (added_to tables.now (scope_of standing.now) greater.now
+        -ℤ added_to tables.now (scope_of standing.now) lesser.now -ℤ pos less))) }
     ensures bounds { IfOk result (λ f. is_half_open f ≡ true) }
 {
     let left = side_of(alloc, tables, standing, lesser)?;
@@ -92,7 +96,8 @@ fn way(
     way: Way,
 ) -> Result<Formula, NoMemory>
     requires { (scope_of standing.now).depth < 2 ^ 32 }
-    ensures formula { IfOk result (λ f. f ≡ way_formula tables.now (scope_of standing.now) left.now right.now way) }
+    ensures formula { IfOk result (λ f. f
+        ≡ way_formula tables.now (scope_of standing.now) left.now right.now way) }
     ensures bounds { IfOk result (λ f. is_half_open f ≡ true) }
 {
     if way.swapped {
@@ -111,7 +116,8 @@ fn ways(
     ways: Ways,
 ) -> Result<Formula, NoMemory>
     requires { (scope_of standing.now).depth < 2 ^ 32 }
-    ensures formula { IfOk result (λ f. f ≡ ways_formula tables.now (scope_of standing.now) left.now right.now ways) }
+    ensures formula { IfOk result (λ f. f
+        ≡ ways_formula tables.now (scope_of standing.now) left.now right.now ways) }
     ensures bounds { IfOk result (λ f. is_half_open f ≡ true) }
 {
     let one = way(alloc, tables, standing, left, right, ways.one)?;
@@ -138,7 +144,9 @@ fn texts(
     right: &Term,
 ) -> Result<Formula, NoMemory>
     requires { (scope_of standing.now).depth < 2 ^ 32 }
-    ensures formula { IfOk result (λ f. f ≡ texts_formula tables.now (scope_of standing.now) op (side_of tables.now (scope_of standing.now) left.now) (side_of tables.now (scope_of standing.now) right.now)) }
+    ensures formula { IfOk result (λ f. f ≡ texts_formula tables.now (scope_of standing.now) op
+        (side_of tables.now (scope_of standing.now) left.now)
+        (side_of tables.now (scope_of standing.now) right.now)) }
     ensures bounds { IfOk result (λ f. is_half_open f ≡ true) }
 {
     let left = side_of(alloc, tables, standing, left)?;
@@ -160,7 +168,8 @@ pub(crate) fn comparison(
     right: &Term,
 ) -> Result<Formula, NoMemory>
     requires { (scope_of standing.now).depth < 2 ^ 32 }
-    ensures formula { IfOk result (λ f. f ≡ compare_formula tables.now (scope_of standing.now) op left.now right.now) }
+    ensures formula { IfOk result (λ f. f
+        ≡ compare_formula tables.now (scope_of standing.now) op left.now right.now) }
     ensures bounds { IfOk result (λ f. is_half_open f ≡ true) }
 {
     if matches!(left, Term::Null) || matches!(right, Term::Null) {
@@ -181,7 +190,9 @@ pub(crate) fn null_test(
     null: bool,
 ) -> Formula
     requires { (scope_of standing.now).depth < 2 ^ 32 }
-    ensures formula { result ≡ (if null then is_null_formula tables.now (scope_of standing.now) term.now else not_null_formula tables.now (scope_of standing.now) term.now) }
+    ensures formula { result ≡ (if null
+        then is_null_formula tables.now (scope_of standing.now) term.now
+        else not_null_formula tables.now (scope_of standing.now) term.now) }
     ensures bounds { is_half_open result ≡ true }
 {
     let Term::Cell {

@@ -1,4 +1,5 @@
-//! A scope, to which the FROM lists of subqueries are added. The entries of each have the next row variables.
+//! A scope, to which the FROM lists of subqueries are added. The entries of each have the next row
+//! variables.
 ghost use Rattle.std.specs.Prelude.{◌≡◌, ◌<◌, ◌+◌, ◌^◌, length, unwrap_or, IfOk, IfErr, slice_get};
 ghost use Rattle.lint_core.specs.Fits.{at_entry, tables_of};
 ghost use Rattle.sort_formula.specs.Sides.{from_number};
@@ -49,11 +50,12 @@ impl Variables<'_> {
         }
     }
 
-    /// The variable of an entry of a level, if the level has it; where there is no such level, how many levels
-    /// further in it would be.
+    /// The variable of an entry of a level, if the level has it; where there is no such level, how
+    /// many levels further in it would be.
     fn look_up(&self, level: u32, entry: u32) -> Result<Option<u32>, usize>
         requires { (numbered self.now).depth < 2 ^ 32 }
-        ensures there { IfOk result (λ found. (level < length (numbered self.now).levels) × (found ≡ at_entry (numbered self.now).levels level entry)) }
+        ensures there { IfOk result (λ found. (level < length (numbered self.now).levels)
+            × (found ≡ at_entry (numbered self.now).levels level entry)) }
         ensures further { IfErr result (λ more. more + length (numbered self.now).levels ≡ level) }
     {
         match self {

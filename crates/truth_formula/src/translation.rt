@@ -95,7 +95,8 @@ fn exists(
     holds: bool,
 ) -> Result<Formula, NoMemory>
     requires { (scope_of standing.now).depth + count_block block.now < 2 ^ 32 }
-    ensures formula { IfOk result (λ made. made ≡ chosen holds (exists_both tables.now (block_translation tables.now block.now) (scope_of standing.now))) }
+    ensures formula { IfOk result (λ made. made ≡ chosen holds (exists_both tables.now
+        (block_translation tables.now block.now) (scope_of standing.now))) }
     ensures bounds { IfOk result (λ made. is_half_open made ≡ true) }
 {
     let entries = block.entries.as_slice();
@@ -119,7 +120,8 @@ fn some_row(
     item: &Term,
 ) -> Result<Formula, NoMemory>
     requires { (scope_of standing.now).depth + count_block block.now < 2 ^ 32 }
-    ensures formula { IfOk result (λ made. made ≡ some_row tables.now (scope_of standing.now) op left.now (block_translation tables.now block.now) item.now) }
+    ensures formula { IfOk result (λ made. made ≡ some_row tables.now (scope_of standing.now) op
+        left.now (block_translation tables.now block.now) item.now) }
     ensures bounds { IfOk result (λ made. is_half_open made ≡ true) }
 {
     let entries = block.entries.as_slice();
@@ -141,7 +143,8 @@ fn every_row(
     item: &Term,
 ) -> Result<Formula, NoMemory>
     requires { (scope_of standing.now).depth + count_block block.now < 2 ^ 32 }
-    ensures formula { IfOk result (λ made. made ≡ every_row tables.now (scope_of standing.now) op left.now (block_translation tables.now block.now) item.now) }
+    ensures formula { IfOk result (λ made. made ≡ every_row tables.now (scope_of standing.now) op
+        left.now (block_translation tables.now block.now) item.now) }
     ensures bounds { IfOk result (λ made. is_half_open made ≡ true) }
 {
     let entries = block.entries.as_slice();
@@ -161,7 +164,8 @@ fn translate_parts(
     holds: bool,
 ) -> Result<Items<Formula>, NoMemory>
     requires { (scope_of standing.now).depth + sum_by count_entries parts.now < 2 ^ 32 }
-    ensures formulas { IfOk result (λ made. made ≡ map (λ part. chosen holds (translation tables.now part (scope_of standing.now))) parts.now) }
+    ensures formulas { IfOk result (λ made. made ≡ map
+        (λ part. chosen holds (translation tables.now part (scope_of standing.now))) parts.now) }
     ensures bounds { IfOk result (λ made. list_all is_half_open made ≡ true) }
 {
     let mut formulas = Items::new(alloc);
@@ -181,7 +185,8 @@ fn translate(
     holds: bool,
 ) -> Result<Formula, NoMemory>
     requires { (scope_of standing.now).depth + count_entries cond.now < 2 ^ 32 }
-    ensures formula { IfOk result (λ made. made ≡ chosen holds (translation tables.now cond.now (scope_of standing.now))) }
+    ensures formula { IfOk result (λ made. made
+        ≡ chosen holds (translation tables.now cond.now (scope_of standing.now))) }
     ensures bounds { IfOk result (λ made. is_half_open made ≡ true) }
 {
     match cond {
@@ -237,9 +242,9 @@ fn translate(
     }
 }
 
-/// The formula that holds exactly where the condition is true, in databases of the schema's domains, at bindings
-/// where it has a truth. A condition is neither true nor false where it is unknown. `NoMemory` where there is no
-/// memory for all of it.
+/// The formula that holds exactly where the condition is true, in databases of the schema's
+/// domains, at bindings where it has a truth. A condition is neither true nor false where it is
+/// unknown. `NoMemory` where there is no memory for all of it.
 pub fn is_true(
     alloc: Global,
     schema: &Schema,
@@ -254,8 +259,8 @@ pub fn is_true(
     translate(alloc, schema.tables().as_slice(), &standing, cond, true)
 }
 
-/// The formula that holds exactly where the condition is false, in databases of the schema's domains, at bindings
-/// where it has a truth. `NoMemory` where there is no memory for all of it.
+/// The formula that holds exactly where the condition is false, in databases of the schema's
+/// domains, at bindings where it has a truth. `NoMemory` where there is no memory for all of it.
 pub fn is_false(
     alloc: Global,
     schema: &Schema,
