@@ -4,7 +4,7 @@ use Rattle.std.specs.Str.{chars, encode_utf8_all}
 use Rattle.std.specs.Prelude.{encode_utf8}
 use Rattle.std.proofs.Math.Utf8.{scalar, scalars, low_scalar}
 use Rattle.std.proofs.lemmas.Str.{chars-encodes, encodes-append}
-use Rattle.std.proofs.lemmas.List.{map_more, append-nil, take_all, drop_more, drop_all}
+use Rattle.std.proofs.lemmas.List.{map_more, append-nil, take_all, drop_more}
 use Rattle.std.proofs.lemmas.Bool.{and_from, leb-true, leb-false, lt-leb}
 use Rattle.lint_tables.specs.Words.{upper}
 use Rattle.sql_lex.specs.Bytes.{decimal_value}

@@ -1,5 +1,5 @@
 -- Names, values, columns and terms are read whole.
-use Rattle.std.proofs.Common.{ℕ, ℤ, pos, int_le, ◌≤◌, ◌≡◌, refl, ap, ◌∙◌, true, false, List, [], ◌∷◌, ◌++◌, Option, Some, None, lit≤, arith}
+use Rattle.std.proofs.Common.{ℕ, ℤ, pos, int_le, ◌≤◌, ◌≡◌, refl, ap, ◌∙◌, true, false, List, ◌∷◌, ◌++◌, Option, Some, None, lit≤, arith}
 use Rattle.std.proofs.lemmas.Bool.{le-leb}
 use Rattle.std.proofs.lemmas.List.{append_assoc}
 use Rattle.lint_base.specs.declared.place.Span.{Span}

@@ -1,5 +1,5 @@
 -- What is read leaves fewer tokens, or no more where it may read nothing; and the steps of reading part after part.
-use Rattle.std.proofs.Common.{ℕ, zero, suc, ◌+◌, ◌≤◌, ◌≡◌, refl, ap, ◌∙◌, Bool, true, false, if◌then◌else◌, List, [], ◌∷◌, ◌++◌, length, Some, None, le_refl, arith}
+use Rattle.std.proofs.Common.{ℕ, zero, suc, ◌+◌, ◌≤◌, ◌≡◌, refl, ap, Bool, true, false, if◌then◌else◌, List, [], ◌∷◌, ◌++◌, length, Some, None, le_refl, arith}
 use Rattle.lint_base.specs.declared.place.Span.{Span}
 use Rattle.lint_tables.specs.declared.op.Op.{Op}
 use Rattle.sql_lex.specs.declared.token.Sign.TheVariants.{Plus, Minus, Compare as Operator}
@@ -17,9 +17,9 @@ use Rattle.sql_parse.specs.inner.readers.Terms.{Named, read_name, name_from, rea
 use Rattle.sql_parse.specs.inner.readers.Predicates.{read_not, comparison_rest, null_rest, between_rest, values_rest, list_or_select, in_rest, negatable, predicate_from, predicate_rest, read_predicate}
 use Rattle.sql_parse.specs.inner.readers.Items.{read_quantifier, item_after, dotted_item, named_item, read_item, read_items, read_entry}
 use Rattle.sql_parse.specs.inner.readers.Selects.{without_inner, cross_joined, inner_joined, read_join, read_group, read_groups, read_where, read_select, read_subquery, read_parenthesized, read_exists, read_primary, read_factor, read_conjunction, read_disjunction, read_cond}
-use Rattle.sql_parse.specs.inner.readers.Queries.{directed, read_key, read_order, read_query}
+use Rattle.sql_parse.specs.inner.readers.Queries.{directed, read_key}
 use Rattle.sql_parse.specs.inner.readers.Tables.{read_length, character_rest, type_from, read_type, read_default, read_constraint, action_from, read_action, read_event, read_actions, read_one_name, read_target, read_reference, read_check, word_rule, column_rule_from, read_column_rule, read_named_rule, read_rules, read_key_names, table_rule_from, read_table_rule, read_declared_column, read_element, read_elements, read_create}
-use Rattle.sql_parse.specs.inner.readers.Schemas.{read_statement, read_next_statement, read_schema}
+use Rattle.sql_parse.specs.inner.readers.Schemas.{read_statement, read_next_statement}
 
 -- what was read, if anything, is so
 abbrev pub Meets : {A : Type 0} → (A → List Token → Type 0) → Read A → Type 0

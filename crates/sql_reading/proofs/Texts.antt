@@ -7,8 +7,6 @@ use Rattle.lint_base.specs.declared.place.TextStop.TheVariants.{Refused, NoMemor
 use Rattle.lint_core.specs.declared.schema.Table.{Table}
 use Rattle.lint_core.specs.declared.query.Query.{Query}
 use Rattle.sql_lex.specs.declared.token.Token.{Token}
-use Rattle.sql_lex.specs.Faults.{IsFaulty}
-use Rattle.sql_lex.specs.Refused.{IsRefused}
 use Rattle.sql_lex.specs.Tokens.{Spells}
 use Rattle.sql_tree.specs.declared.schema.CreateTable.{CreateTable}
 use Rattle.sql_tree.specs.declared.select.QueryTree.{QueryTree}
@@ -17,7 +15,7 @@ use Rattle.sql_bind.specs.Bound.{Gives}
 use Rattle.sql_bind.specs.Queries.{bind_query}
 use Rattle.sql_bind.specs.Schemas.{bind_schema}
 use Rattle.sql_reading.specs.Stopping.{StopsSchema, StopsQuery}
-use Rattle.sql_reading.specs.TextReading.{ReadsSchema, ReadsQuery, piece_text}
+use Rattle.sql_reading.specs.TextReading.{ReadsQuery, piece_text}
 use Rattle.sql_reading.specs.TextReading as reading
 
 whole : (text : List ℕ) → slice_range text 0 (length text) ≡ text
