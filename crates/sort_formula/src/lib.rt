@@ -1,10 +1,11 @@
 //! Formulas: sentences with two truth values about the rows of a database.
 //!
-//! The layer above may use the types, `negate`, `place`, `Sentence` and its calls, and the copies. Of `specs/`
-//! a reader must believe `Holds` (when a formula holds), `Negated` and `Placed` (what `negate` and `place`
-//! make), `Variables` (`is_numbered_from`: which formulas `place` takes), `Sentences` (what a sentence is), `Nodes`,
-//! `Bounds`, and `Rows`, which the laws speak of. The laws `negation_complements` and `placing_renames` of `formula_laws` say what
-//! `negate` and `place` are for.
+//! The layer above may use the types, `negate`, `place`, `Sentence` and its calls, the copies, and the builders: `Cell`
+//! and its calls, `exists`, `for_all`, `exist_rows` and `for_all_rows`. Of `specs/` a reader must believe `Holds` (when a
+//! formula holds), `Negated` and `Placed` (what `negate` and `place` make), `Cells` and of `Translation` `exist_rows` and
+//! `for_all_rows` (what the builders make), `Variables` (`is_numbered_from`: which formulas `place` takes), `Sentences`
+//! (what a sentence is), `Nodes`, `Bounds`, and `Rows`, which the laws speak of. The laws `negation_complements` and
+//! `placing_renames` of `formula_laws` say what `negate` and `place` are for.
 //!
 //! When the steps of a certificate are accepted is defined in `Certificate`, with `Facts`, `Rings` and `Chains`; none of
 //! them need be believed, since the law `accepted_steps_refute` of `formula_laws` says what accepted steps show: that the

@@ -108,6 +108,15 @@ module _ (db : Database) where
 
 -- ---- CHECKs
 
+-- the formula of a CHECK that fits, at one row of its table
+pub row_fits : FormulasFit → (schema : List Table) (number : ℕ) (table : Table) (check : Cond) → cond_fits schema ((number ∷ []) ∷ []) check ≡ true →
+    formula_fits schema (is_false_formula schema check (row_scope schema number table)) (number ∷ []) ≡ true
+row_fits fit schema number table check meant = fit schema check (row_scope schema number table) meant refl (number ∷ []) refl (λ entry named. first entry) (λ level entry. refl)
+  where
+    first : (entry : ℕ) → option_and_then (slice_get (number ∷ [])) (at_entry ((0 ∷ []) ∷ []) 0 entry) ≡ at_entry ((number ∷ []) ∷ []) 0 entry
+    first zero = refl
+    first (suc entry) = refl
+
 module _ (says : CheckSays) (fit : FormulasFit) (schema : List Table) (db : Database) (domains : is_of_domains schema db ≡ true) (number : ℕ) (table : Table) where
   abbrev tables_here : List (List ℕ)
   tables_here = (number ∷ []) ∷ []
@@ -129,19 +138,12 @@ module _ (says : CheckSays) (fit : FormulasFit) (schema : List Table) (db : Data
       first zero = refl
       first (suc entry) = refl
 
-  fits : (check : Cond) → cond_fits schema tables_here check ≡ true → formula_fits schema (is_false_formula schema check (row_scope schema number table)) (number ∷ []) ≡ true
-  fits check meant = fit schema check (row_scope schema number table) meant refl (number ∷ []) refl (λ entry named. first entry) (λ level entry. refl)
-    where
-      first : (entry : ℕ) → option_and_then (slice_get (number ∷ [])) (at_entry ((0 ∷ []) ∷ []) 0 entry) ≡ at_entry tables_here 0 entry
-      first zero = refl
-      first (suc entry) = refl
-
   row_holds : (check : Cond) → is_flat check ≡ true → cond_fits schema tables_here check ≡ true → (row : ℕ) →
       holds db (negated (is_false_formula schema check (row_scope schema number table))) (row_here row) ≡ not (is_false_at db check tables_here ((row ∷ []) ∷ []))
   row_holds check flat meant row =
       let formula = is_false_formula schema check (row_scope schema number table) in
       let known = flat_truth db check flat tables_here ((row ∷ []) ∷ []) in
-      complements schema db domains formula (row_here row) (fits check meant)
+      complements schema db domains formula (row_here row) (row_fits fit schema number table check meant)
       ∙ ap not
       (says schema db domains check (row_scope schema number table) meant ((row ∷ []) ∷ []) (row_here row) (stands check row) known.0 known.1
       ∙ sym (ap (has_truth is_false) known.1))

@@ -26,10 +26,10 @@ use Rattle.truth_laws.proofs.Values.{cell_is, is_of, one_kind, equal_say}
 none_one : (n : ℕ) → nat_eq 0 (suc n) ≡ true → ⊥
 none_one n same = grind (arith, nat_tests)
 
-one_none : (n : ℕ) → nat_eq (suc n) 0 ≡ true → ⊥
+pub one_none : (n : ℕ) → nat_eq (suc n) 0 ≡ true → ⊥
 one_none n same = grind (arith, nat_tests)
 
-as_many : (m n : ℕ) → nat_eq (suc m) (suc n) ≡ true → nat_eq m n ≡ true
+pub as_many : (m n : ℕ) → nat_eq (suc m) (suc n) ≡ true → nat_eq m n ≡ true
 as_many m n same = grind (arith, nat_tests)
 
 module _ (schema : List Table) (db : Database) (domains : is_of_domains schema db ≡ true) (number : ℕ) (table : Table) (at : slice_get schema number ≡ Some table) where

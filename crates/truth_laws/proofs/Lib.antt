@@ -27,3 +27,4 @@ pub mod Keys
 pub mod Checks
 pub mod Foreign
 pub mod Constraints
+pub mod AxiomsFit

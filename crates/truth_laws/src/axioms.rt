@@ -11,9 +11,18 @@ ghost use Rattle.sort_formula.specs.declared.formula.Formula.{Formula};
 ghost use Rattle.sort_formula.specs.Axioms.{Axiom as Stated, axioms};
 ghost use Rattle.sort_formula.specs.Certificate.{accepts};
 ghost use Rattle.sort_formula.specs.Holds.{holds};
+ghost use Rattle.sort_formula.specs.Sentences.{formula_fits};
 
 use crate::truths::{formulas_fit, formulas_say_truth};
 use formula_laws::accepted_steps_refute;
+
+/// The axioms of a schema fit it: their tables and columns exist, and they compare cells of one kind.
+pub fn axioms_fit()
+    ensures { (schema : List Table) → is_schema schema ≡ true
+        → list_all (λ (a : Stated). formula_fits schema a.sentence []) (axioms schema) ≡ true }
+{
+    formulas_fit();
+}
 
 /// A database of the domains meets the schema exactly where all axioms hold in it.
 pub fn axioms_are_the_constraints()
