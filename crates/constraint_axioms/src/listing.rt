@@ -130,5 +130,7 @@ pub fn axioms(alloc: Global, schema: &Schema) -> Result<Vec<Axiom>, NoMemory>
         ≡ true) }
 {
     axioms_fit();
+    // (a schema is right, as its tables say)
+    schema.tables();
     all_axioms(alloc, schema)
 }

@@ -13,5 +13,5 @@ returns-clause-fits c =
     let schema = c.args.schema.now in
     let fitting = λ (a : Axiom). formula_fits schema a.sentence [] in
     IfOk-weaker c.all_axioms.result (λ list. map spoken list.items ≡ axioms schema) (λ list. list_all (λ (a : Made). formula_fits schema a.sentence []) list.items ≡ true)
-    (λ list are. sym (list_all-map fitting spoken list.items) ∙ (ap (list_all fitting) are ∙ c.axioms_fit.ensures schema c.type_inv.schema))
+    (λ list are. sym (list_all-map fitting spoken list.items) ∙ (ap (list_all fitting) are ∙ c.axioms_fit.ensures schema c.tables.ensures.schema))
     c.all_axioms.ensures
