@@ -1,6 +1,7 @@
 -- Which conditions may be read where no subquery may stand, part by part.
 use Rattle.std.proofs.Common.{◌≡◌, refl, ap, sym, ◌∙◌, Bool, true, false, ◌&&◌, List, [], ◌∷◌, map, ◌⊎◌, inl, inr}
 use Rattle.std.specs.List.{list_all}
+use Rattle.lint_base.proofs.Lists.{and_true, both_left, both_right}
 use Rattle.lint_base.specs.declared.place.Span.{Span}
 use Rattle.lint_tables.specs.declared.op.Op.{Op}
 use Rattle.sql_tree.specs.declared.term.TermTree.{TermTree}
@@ -44,22 +45,10 @@ flat_in : (term : TermTree) (select : SelectTree) (negated : Bool) (span : Span)
 flat_in term select negated span =
     ap is_flat (sym (rolls-InSelect term select negated span)) ∙ fold-roll-CondTree Bool Bool Bool is_flat_step (λ entry. false) (λ select. false) (CondTree-F.InSelect term select negated span)
 
-and_left : (a b : Bool) → (a && b) ≡ true → a ≡ true
-and_left true b e = refl
-and_left false b e = e
-
-and_right : (a b : Bool) → (a && b) ≡ true → b ≡ true
-and_right true b e = e
-and_right false b e = cc
-
-alone_and : (a : Bool) → (a && true) ≡ a
-alone_and true = refl
-alone_and false = refl
-
 all_alone : (join : List CondTree → CondTree) → ((trees : List CondTree) → is_flat (join trees) ≡ all_flat trees) → (parts : List CondTree) → is_flat (alone_or join parts) ≡ all_flat parts
 unfolding all_flat
 all_alone join e [] = e []
-all_alone join e (part ∷ []) = sym (alone_and (is_flat part))
+all_alone join e (part ∷ []) = sym (and_true (is_flat part))
 all_alone join e (part ∷ next ∷ parts) = e (part ∷ next ∷ parts)
 
 all_or : (flat : Bool) (join : List CondTree → CondTree) → ((trees : List CondTree) → is_flat (join trees) ≡ all_flat trees) → (parts : List CondTree) → MayRead flat (alone_or join parts) → MayReadAll flat parts
@@ -77,12 +66,12 @@ may_or flat parts m = all_or flat Or flat_or parts m
 pub may_first : (flat : Bool) (part : CondTree) (parts : List CondTree) → MayReadAll flat (part ∷ parts) → MayRead flat part
 unfolding MayReadAll all_flat
 may_first flat part parts (inl f) = inl f
-may_first flat part parts (inr f) = inr (and_left (is_flat part) (all_flat parts) f)
+may_first flat part parts (inr f) = inr (both_left (is_flat part) (all_flat parts) f)
 
 pub may_others : (flat : Bool) (part : CondTree) (parts : List CondTree) → MayReadAll flat (part ∷ parts) → MayReadAll flat parts
 unfolding MayReadAll all_flat
 may_others flat part parts (inl f) = inl f
-may_others flat part parts (inr f) = inr (and_right (is_flat part) (all_flat parts) f)
+may_others flat part parts (inr f) = inr (both_right (is_flat part) (all_flat parts) f)
 
 pub may_not : (flat : Bool) (tree : CondTree) → MayRead flat (Not tree) → MayRead flat tree
 may_not flat tree (inl f) = inl f

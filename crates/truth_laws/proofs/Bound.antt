@@ -27,7 +27,7 @@ use Rattle.lint_core.specs.declared.scope.Scope.{Scope}
 use Rattle.sort_formula.specs.Sides.{compare_formula, is_null_formula, not_null_formula}
 use Rattle.sort_formula.specs.Translation.{translation}
 use Rattle.sort_formula.proofs.Fitting.{bound_parts, fits_atom, fits_and, fits_or, fits_exists, fits_forall}
-use Rattle.lint_base.proofs.Lists.{both_left, both_right}
+use Rattle.lint_base.proofs.Lists.{both_left, both_right, true_below}
 use Rattle.sort_formula.specs.Bounds.{atom_is_within, is_within}
 use Rattle.truth_laws.proofs.Atoms.{all_atoms, atoms_atom, atoms_and, atoms_or, atoms_exists, atoms_forall, weaker, negated_passes, translation_passes, fails_passes, compare_passes, null_passes_too}
 use Rattle.truth_laws.proofs.Fitting.{both_are, negation_fits}
@@ -141,14 +141,11 @@ bound_exists table body outside = bound_out (f.Exists table body) outside ∙ ap
 bound_forall : (table : ℕ) (body : Formula) (outside : List ℕ) → is_bound (f.Forall table body) outside ≡ is_bound body (outside ++ table ∷ [])
 bound_forall table body outside = bound_out (f.Forall table body) outside ∙ ap (λ layer. bound_layer layer outside) (f.outs-Forall table body)
 
-lies_below : (n m : ℕ) → n < m → nat_lt n m ≡ true
-lies_below n m low = grind (arith, nat_tests)
-
 module _ (schema : List Table) (outside : List ℕ) where
   variable_there : (row column : ℕ) (table : Option ℕ) → slice_get outside row ≡ table →
       is_some (option_and_then (λ t. option_and_then (λ table. column_kind table column) (slice_get schema t)) table) ≡ true → is_variable outside row ≡ true
   variable_there row column None at some = cc
-  variable_there row column (Some table) at some = lies_below row (length outside) (slice_get_within outside row table at)
+  variable_there row column (Some table) at some = true_below row (length outside) (slice_get_within outside row table at)
 
   kind_there : (row column : ℕ) → is_some (kind_at schema outside row column) ≡ true → is_variable outside row ≡ true
   kind_there row column some = variable_there row column (slice_get outside row) refl some

@@ -20,12 +20,9 @@ use Rattle.lint_core.specs.Predicates.{first_or, predicates, with_replaced}
 use Rattle.lint_core.proofs.Parted.{conjuncts_true, conjuncts_false, conjuncts_and, conjuncts_or, conjuncts_not, conjuncts_compare, conjuncts_is_null, conjuncts_exists, conjuncts_in, conjuncts_scalar}
 use Rattle.lint_core.proofs.Parted.{replaced_true, replaced_false, replaced_and, replaced_or, replaced_not, replaced_compare, replaced_is_null, replaced_exists, replaced_in_subquery, replaced_scalar}
 use Rattle.lint_core.proofs.Parted.{replaced_among, block_replaced}
-use Rattle.lint_base.proofs.Lists.{both_left, both_right}
+use Rattle.lint_base.proofs.Lists.{both_left, both_right, all_append}
 use Rattle.truth_laws.proofs.Fitting.{both_are}
 use Rattle.truth_laws.proofs.Layers.{block_fit, fits_and, fits_or, fits_not, fits_exists, fits_in, fits_scalar}
-
-pub all_append : {A : Type 0} (p : A → Bool) (xs ys : List A) → list_all p xs ≡ true → list_all p ys ≡ true → list_all p (xs ++ ys) ≡ true
-all_append p xs ys first second = list_all-append p xs ys ∙ both_are (list_all p xs) (list_all p ys) first second
 
 module _ (schema : List Table) where
   -- ---- a block that fits, and what compares with what it selects

@@ -13,9 +13,9 @@ use Rattle.lint_core.specs.Fits.{cond_fits, tables_of}
 use Rattle.lint_core.specs.Subqueries.{Subquery, subquery, is_column, scalar_subqueries, not_in_subqueries}
 use Rattle.lint_core.proofs.Parted.{scalars_true, scalars_false, scalars_and, scalars_or, scalars_not, scalars_compare, scalars_is_null, scalars_exists, scalars_in, scalars_scalar}
 use Rattle.lint_core.proofs.Parted.{not_ins_true, not_ins_false, not_ins_and, not_ins_or, not_ins_not, not_ins_compare, not_ins_is_null, not_ins_exists, not_ins_in, not_ins_scalar}
-use Rattle.lint_base.proofs.Lists.{both_left, both_right}
+use Rattle.lint_base.proofs.Lists.{both_left, both_right, all_append}
 use Rattle.truth_laws.proofs.Fitting.{both_are}
-use Rattle.truth_laws.proofs.FittingParts.{all_append, exists_inner, in_inner, scalar_inner}
+use Rattle.truth_laws.proofs.FittingParts.{exists_inner, in_inner, scalar_inner}
 use Rattle.truth_laws.proofs.Layers.{fits_and, fits_or, fits_not}
 
 module _ (schema : List Table) where

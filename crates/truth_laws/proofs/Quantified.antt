@@ -9,7 +9,7 @@ use Rattle.sort_formula.specs.declared.formula.Formula.{Formula}
 use Rattle.sort_formula.specs.Holds.{holds}
 use Rattle.sort_formula.specs.Translation.{exist_rows, for_all_rows}
 use Rattle.sort_formula.proofs.Holding.{holds_exists, holds_forall}
-use Rattle.lint_base.proofs.Lists.{any_map, any_alike, all_alike}
+use Rattle.lint_base.proofs.Lists.{any_map, any_alike, all_alike, and_true, or_false}
 
 any_flat : {A B : Type 0} (f : A → List B) (p : B → Bool) (xs : List A) → list_any p (flat_map f xs) ≡ list_any (λ x. list_any p (f x)) xs
 any_flat f p [] = refl
@@ -18,14 +18,6 @@ any_flat f p (x ∷ xs) = list_any-append p (f x) (flat_map f xs) ∙ ap (λ b. 
 all_flat : {A B : Type 0} (f : A → List B) (p : B → Bool) (xs : List A) → list_all p (flat_map f xs) ≡ list_all (λ x. list_all p (f x)) xs
 all_flat f p [] = refl
 all_flat f p (x ∷ xs) = list_all-append p (f x) (flat_map f xs) ∙ ap (λ b. list_all p (f x) && b) (all_flat f p xs)
-
-or_false : (b : Bool) → (b || false) ≡ b
-or_false true = refl
-or_false false = refl
-
-and_true : (b : Bool) → (b && true) ≡ b
-and_true true = refl
-and_true false = refl
 
 abbrev pub place_in : ℕ → ℕ → Place
 place_in table row = record { table = table; row = row }

@@ -17,7 +17,7 @@ use Rattle.lint_core.specs.Condition.{Inner, selected, exists_truth, in_truth, s
 use Rattle.lint_core.specs.Database.{below, rows_of, row_lists}
 use Rattle.lint_core.specs.Evaluation.{and_then, map_ok}
 use Rattle.lint_core.specs.Truth.{is_true, is_false, greatest, or_of}
-use Rattle.lint_base.proofs.Lists.{any_map}
+use Rattle.lint_base.proofs.Lists.{any_map, every_append}
 
 -- ---- lists
 
@@ -25,14 +25,6 @@ use Rattle.lint_base.proofs.Lists.{any_map}
 abbrev pub passing : {A : Type 0} → (A → Bool) → List A → List A
 passing p [] = []
 passing p (x ∷ xs) = if p x then x ∷ passing p xs else passing p xs
-
-pub every_then : {A : Type 0} (P Q : A → Type 0) → ((x : A) → P x → Q x) → (xs : List A) → AllByRecursion P xs → AllByRecursion Q xs
-every_then P Q leads [] all = tt
-every_then P Q leads (x ∷ xs) all = (leads x all.0, every_then P Q leads xs all.1)
-
-every_append : {A : Type 0} (P : A → Type 0) (xs ys : List A) → AllByRecursion P xs → AllByRecursion P ys → AllByRecursion P (xs ++ ys)
-every_append P [] ys first second = second
-every_append P (x ∷ xs) ys first second = (first.0, every_append P xs ys first.1 second)
 
 every_map : {A B : Type 0} (P : A → Type 0) (Q : B → Type 0) (g : A → B) → ((x : A) → P x → Q (g x)) → (xs : List A) → AllByRecursion P xs → AllByRecursion Q (map g xs)
 every_map P Q g leads [] all = tt

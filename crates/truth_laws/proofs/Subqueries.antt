@@ -41,7 +41,7 @@ use Rattle.sort_formula.specs.Standpoint.{IsRowOf, StandsFor}
 use Rattle.sort_formula.specs.Translation.{inside, is_true_formula, exist_rows, for_all_rows, exists_both, in_both, scalar_both, swapped_if}
 use Rattle.formula_laws.proofs.Complements.{complements}
 use Rattle.sort_formula.proofs.Holding.{holds_and, holds_or}
-use Rattle.lint_base.proofs.Lists.{both_left, both_right}
+use Rattle.lint_base.proofs.Lists.{both_left, both_right, every_then}
 use Rattle.truth_laws.proofs.Inside.{term_stands, part_stands, inside_stands, same_entries, outer_value}
 use Rattle.truth_laws.proofs.Fits.{first_there, compares_inside, cond_fits as condition_fits}
 use Rattle.truth_laws.proofs.Layers.{block_fit, block_parts, translation_exists, translation_in, translation_scalar, fits_exists, fits_in, fits_scalar, names_exists, names_in, names_scalar}
@@ -49,7 +49,7 @@ use Rattle.truth_laws.proofs.Leaves.{compare_true, compare_false}
 use Rattle.truth_laws.proofs.Parts.{made, swapped, by_layer}
 use Rattle.truth_laws.proofs.Quantified.{holds_at, places_in, exist_is, for_all_is}
 use Rattle.truth_laws.proofs.Spoken.{BothSay, Says}
-use Rattle.truth_laws.proofs.Selecting.{passing, every_then, any_same, all_same, one_each, selected_passing, some_is_true, some_is_false, in_is_true, in_is_false, scalar_is}
+use Rattle.truth_laws.proofs.Selecting.{passing, any_same, all_same, one_each, selected_passing, some_is_true, some_is_false, in_is_true, in_is_false, scalar_is}
 
 -- ---- the tables of the rows
 

@@ -32,7 +32,7 @@ use Rattle.sort_formula.specs.Rows.{tables_of_rows}
 use Rattle.sort_formula.specs.Sentences.{is_number_kind, kind_at}
 use Rattle.formula_laws.proofs.Cells.{may_be_number, may_be_text, number_side, text_side}
 use Rattle.sort_formula.proofs.Holding.{holds_atom, holds_and}
-use Rattle.lint_base.proofs.Lists.{both_left, both_right}
+use Rattle.lint_base.proofs.Lists.{both_left, both_right, and_true, or_false}
 
 -- NULL or a text; NULL or a number
 abbrev pub is_of : Bool → Value → Bool
@@ -51,10 +51,6 @@ parts_equal false v w = differ_by_at_most v w (pos 0) && (differ_by_at_most w v 
 
 numbers_equal : (a b : ℤ) → (int_le (a -ℤ b) (pos 0) && (int_le (b -ℤ a) (pos 0) && true) && true) ≡ int_eq a b
 numbers_equal a b = grind (arith, ints)
-
-and_true : (b : Bool) → (b && true) ≡ b
-and_true true = refl
-and_true false = refl
 
 is_equal : (text : Bool) (v w : Value) → is_of text v ≡ true → is_of text w ≡ true → parts_equal text v w ≡ are_equal v w
 is_equal true Null w left right = refl
@@ -76,10 +72,6 @@ parts_differ false v w = differ_by_at_most v w (neg_ℤ (pos 1)) || (differ_by_a
 
 numbers_differ : (a b : ℤ) → (int_le (a -ℤ b) (neg_ℤ (pos 1)) || (int_le (b -ℤ a) (neg_ℤ (pos 1)) || false)) ≡ not (int_eq a b)
 numbers_differ a b = grind (arith, ints)
-
-or_false : (b : Bool) → (b || false) ≡ b
-or_false true = refl
-or_false false = refl
 
 is_other : (text : Bool) (v w : Value) → is_of text v ≡ true → is_of text w ≡ true → (is_null v || (is_null w || parts_differ text v w)) ≡ not (are_equal v w)
 is_other true Null w left right = refl
