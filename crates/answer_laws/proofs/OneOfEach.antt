@@ -12,29 +12,29 @@ use Rattle.answer_laws.specs.Answers.{is_among, times, AreOneBag}
 
 -- ---- rows that are not distinct are one
 
-pub one_row : (row other : List Value) → is_same_row row other ≡ true → row ≡ other
+pub one_row : (row other : List Value) → are_not_distinct_rows row other ≡ true → row ≡ other
 one_row row other = (row_decides row other).0
 
-pub same_row : (row other : List Value) → row ≡ other → is_same_row row other ≡ true
+pub same_row : (row other : List Value) → row ≡ other → are_not_distinct_rows row other ≡ true
 same_row row other = (row_decides row other).1
 
-other_row : (row other : List Value) → row ≢ other → is_same_row row other ≡ false
-other_row row other apart = false_from_ne_true (is_same_row row other) (λ alike. apart (one_row row other alike))
+other_row : (row other : List Value) → row ≢ other → are_not_distinct_rows row other ≡ false
+other_row row other apart = false_from_ne_true (are_not_distinct_rows row other) (λ alike. apart (one_row row other alike))
 
 -- ---- which rows are left
 
 pub left_stands : (row : List Value) (rows : List (List Value)) → Stands row (one_of_each rows) → Stands row rows
 left_stands row [] here = absurd here
 left_stands row (first ∷ rows) (inl same) = inl same
-left_stands row (first ∷ rows) (inr more) = inr (left_stands row rows (filter_stands (λ other. not (is_same_row first other)) row (one_of_each rows) more).0)
+left_stands row (first ∷ rows) (inr more) = inr (left_stands row rows (filter_stands (λ other. not (are_not_distinct_rows first other)) row (one_of_each rows) more).0)
 
 pub stands_left : (row : List Value) (rows : List (List Value)) → Stands row rows → Stands row (one_of_each rows)
 stands_left row [] here = absurd here
 stands_left row (first ∷ rows) (inl same) = inl same
 stands_left row (first ∷ rows) (inr more) =
-    elim (is_same_row first row) as (λ b. is_same_row first row ≡ b → Stands row (one_of_each (first ∷ rows))) [
+    elim (are_not_distinct_rows first row) as (λ b. are_not_distinct_rows first row ≡ b → Stands row (one_of_each (first ∷ rows))) [
       | true ↦ λ alike. inl (one_row first row alike)
-      | false ↦ λ apart. inr (stands_filter (λ other. not (is_same_row first other)) row (one_of_each rows) (ap not apart) (stands_left row rows more))
+      | false ↦ λ apart. inr (stands_filter (λ other. not (are_not_distinct_rows first other)) row (one_of_each rows) (ap not apart) (stands_left row rows more))
     ]
     refl
 
@@ -43,19 +43,19 @@ pub all_left : (rows : List (List Value)) → AllDiffer rows → one_of_each row
 all_left [] differ = refl
 all_left (row ∷ rows) differ =
     ap (λ rest. row ∷ rest)
-    (ap (filter (λ other. not (is_same_row row other))) (all_left rows differ.1)
-    ∙ filter_all (λ other. not (is_same_row row other)) rows (λ other here. ap not (other_row row other (differ.0 other here))))
+    (ap (filter (λ other. not (are_not_distinct_rows row other))) (all_left rows differ.1)
+    ∙ filter_all (λ other. not (are_not_distinct_rows row other)) rows (λ other here. ap not (other_row row other (differ.0 other here))))
 
 pub among_stands : (row : List Value) (rows : List (List Value)) → (is_among rows row ≡ true) ↔ Stands row rows
 among_stands row [] = (λ here. cc, λ here. absurd here)
 among_stands row (first ∷ rows) = (
-  λ here. elim (or_cases (is_same_row row first) (is_among rows row) here) [
+  λ here. elim (or_cases (are_not_distinct_rows row first) (is_among rows row) here) [
     | inl same ↦ inl (sym (one_row row first same))
     | inr more ↦ inr ((among_stands row rows).0 more)
   ],
   λ here. elim here [
-    | inl same ↦ or_left (is_same_row row first) (is_among rows row) (same_row row first (sym same))
-    | inr more ↦ or_right (is_same_row row first) (is_among rows row) ((among_stands row rows).1 more)
+    | inl same ↦ or_left (are_not_distinct_rows row first) (is_among rows row) (same_row row first (sym same))
+    | inr more ↦ or_right (are_not_distinct_rows row first) (is_among rows row) ((among_stands row rows).1 more)
   ],
 )
 
@@ -74,9 +74,9 @@ times_none row (first ∷ rows) apart = times_other row first rows (apart first 
 -- one more row in front, in both
 times_behind : (row first : List Value) (rows others : List (List Value)) → times row (first ∷ rows) ≡ times row (first ∷ others) → times row rows ≡ times row others
 times_behind row first rows others =
-    elim (is_same_row row first) as (λ b.
-    length (cond b (first ∷ filter (is_same_row row) rows) (filter (is_same_row row) rows))
-    ≡ length (cond b (first ∷ filter (is_same_row row) others) (filter (is_same_row row) others)) → times row rows ≡ times row others) [
+    elim (are_not_distinct_rows row first) as (λ b.
+    length (cond b (first ∷ filter (are_not_distinct_rows row) rows) (filter (are_not_distinct_rows row) rows))
+    ≡ length (cond b (first ∷ filter (are_not_distinct_rows row) others) (filter (are_not_distinct_rows row) others)) → times row rows ≡ times row others) [
       | true ↦ λ as_often. omega arith
       | false ↦ λ as_often. as_often
     ]
@@ -86,7 +86,7 @@ none_stands row [] none here = here
 none_stands row (first ∷ rows) none (inl same) = let more = times_same row first rows (sym same) in omega arith
 none_stands row (first ∷ rows) none (inr more) =
     none_stands row rows
-    (elim (is_same_row row first) as (λ b. length (cond b (first ∷ filter (is_same_row row) rows) (filter (is_same_row row) rows)) ≡ 0 → times row rows ≡ 0) [
+    (elim (are_not_distinct_rows row first) as (λ b. length (cond b (first ∷ filter (are_not_distinct_rows row) rows) (filter (are_not_distinct_rows row) rows)) ≡ 0 → times row rows ≡ 0) [
       | true ↦ λ never. absurd (omega arith)
       | false ↦ λ still. still
     ]
@@ -95,11 +95,11 @@ none_stands row (first ∷ rows) none (inr more) =
 
 module _ (row : List Value) (rows : List (List Value)) where
   abbrev is_other : List Value → Bool
-  is_other other = not (is_same_row row other)
+  is_other other = not (are_not_distinct_rows row other)
 
   rest_apart : (other : List Value) → Stands other (filter is_other (one_of_each rows)) → row ≢ other
   rest_apart other here same =
-      let passes : not (is_same_row row other) ≡ true = (filter_stands is_other other (one_of_each rows) here).1 in
+      let passes : not (are_not_distinct_rows row other) ≡ true = (filter_stands is_other other (one_of_each rows) here).1 in
       let never : false ≡ true = sym (ap not (same_row row other same)) ∙ passes in
       cc
 
@@ -120,24 +120,24 @@ one_bag_differs (row ∷ rows) bag =
     let apart = apart_by_times row rows (bag row) in (
       apart,
       one_bag_differs rows (λ other.
-          sym (ap (times other) (rest_same row rows apart)) ∙ times_behind other row (filter (λ r. not (is_same_row row r)) (one_of_each rows)) rows (bag other)),
+          sym (ap (times other) (rest_same row rows apart)) ∙ times_behind other row (filter (λ r. not (are_not_distinct_rows row r)) (one_of_each rows)) rows (bag other)),
     )
 
 left_shorter : (rows : List (List Value)) → length (one_of_each rows) ≤ length rows
 left_shorter [] = omega arith
 left_shorter (row ∷ rows) =
     let less = left_shorter rows in
-    let other = filter_shorter (λ r. not (is_same_row row r)) (one_of_each rows) in
+    let other = filter_shorter (λ r. not (are_not_distinct_rows row r)) (one_of_each rows) in
     omega arith
 
 pub as_many_differ : (rows : List (List Value)) → length (one_of_each rows) ≡ length rows → AllDiffer rows
 as_many_differ [] many = tt
 as_many_differ (row ∷ rows) many =
     let less = left_shorter rows in
-    let other = filter_shorter (λ r. not (is_same_row row r)) (one_of_each rows) in
-    let pass = as_many_pass (λ r. not (is_same_row row r)) (one_of_each rows) (omega arith) in (
+    let other = filter_shorter (λ r. not (are_not_distinct_rows row r)) (one_of_each rows) in
+    let pass = as_many_pass (λ r. not (are_not_distinct_rows row r)) (one_of_each rows) (omega arith) in (
       λ r here same.
-          let passes : not (is_same_row row r) ≡ true = pass r (stands_left r rows here) in
+          let passes : not (are_not_distinct_rows row r) ≡ true = pass r (stands_left r rows here) in
           let never : false ≡ true = sym (ap not (same_row row r same)) ∙ passes in
           cc,
       as_many_differ rows (omega arith),

@@ -56,7 +56,7 @@ known_two true fact (Ok t) (Ok u) =
 
 -- ---- E2
 
-same_items : (one two : Item → Value) (items : List Item) → is_same_row (map one items) (map two items) ≡ list_all (λ item. are_not_distinct (one item) (two item)) items
+same_items : (one two : Item → Value) (items : List Item) → are_not_distinct_rows (map one items) (map two items) ≡ list_all (λ item. are_not_distinct (one item) (two item)) items
 same_items one two [] = refl
 same_items one two (item ∷ items) = ap (λ b. are_not_distinct (one item) (two item) && b) (same_items one two items)
 
@@ -101,7 +101,7 @@ module _ (db : Database) (query : Query) (given : Value) where
       let each = six (main one) (main two) apart (true_at one) (true_at two) alike in
       (λ refuted. each.0 (sym known ∙ refuted), λ all. known ∙ each.1 all)
 
-  same_there : (a b : List ℕ) → is_same_row (row_there db query a) (row_there db query b) ≡ are_same_items db query (at db query a) (at db query b)
+  same_there : (a b : List ℕ) → are_not_distinct_rows (row_there db query a) (row_there db query b) ≡ are_same_items db query (at db query a) (at db query b)
   same_there a b = same_items (item_value db query (at db query a)) (item_value db query (at db query b)) query.items
 
   pub holds_differ : HoldsIn db query NeedlessDistinct given → AllDiffer (given_rows db query)
