@@ -1,0 +1,9 @@
+pub mod Paths
+pub mod Search
+pub mod Meeting
+pub mod Spreading
+pub mod Reading
+pub mod Climbing
+pub mod Holding
+pub mod Prefixes
+pub mod Answering

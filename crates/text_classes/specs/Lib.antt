@@ -1,0 +1,4 @@
+pub mod Texts
+pub mod Paths
+pub mod Answer
+pub mod inner
