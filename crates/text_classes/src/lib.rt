@@ -3,9 +3,9 @@
 //! shows that there are none.
 //!
 //! The layer above may use every public item. Of `specs/` a reader must believe `Texts`, `Paths`
-//! and `Answer`. `inner` speaks of the steps in between, and no public clause cites it: the facts are
-//! read as links between nodes, a search through the links gives each node its class, and a class
-//! that no constant text reaches gets a text that begins as no constant text does.
+//! and `Answer`. `inner` speaks of the steps in between, and no public clause cites it: the facts
+//! are read as links between nodes, a search through the links gives each node its class, and a
+//! class that no constant text reaches gets a text that begins as no constant text does.
 //!
 //! A body that answers `NoMemory` at once meets the contract of `classes`, since no clause can say
 //! that memory is left: the tests show that it succeeds.

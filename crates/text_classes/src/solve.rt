@@ -13,9 +13,9 @@ use lint_base::{Items, NoMemory};
 use std::alloc::Global;
 
 /// A class for each variable and a text for each class, so that the facts hold; or a chain of
-/// equal facts between the sides of an unequal one or between two different texts, which shows that
-/// there are none. Two variables are of one class only where equal facts lead from the one to the other,
-/// and two classes have different texts.
+/// equal facts between the sides of an unequal one or between two different texts, which shows
+/// that there are none. Two variables are of one class only where equal facts lead from the one to
+/// the other, and two classes have different texts.
 ///
 /// `NoMemory` when memory runs out, and in no other case. The time is nearly linear in the facts.
 pub fn classes(alloc: Global, vars: u32, facts: &[TextFact]) -> Result<Classed, NoMemory>
