@@ -16,7 +16,7 @@ use Rattle.lint_core.specs.declared.schema.Table.{Table}
 use Rattle.lint_core.specs.Fits.{at_entry, tables_of, cell_kind, term_fits}
 use Rattle.lint_core.specs.Kind.{kind_of, with_added}
 use Rattle.sql_bind.specs.Bound.{Bound}
-use Rattle.sql_bind.specs.Names.{Level, seen_entries, level_tables, column_place, entry_place, columns_of, columns_at, Place, with_place, places_named, among, find_unqualified, in_entry, at_entry, find_qualified, find_column}
+use Rattle.sql_bind.specs.Names.{Level, seen_entries, level_tables, column_place, entry_place, columns_of, columns_at, Place, with_place, places_named, among, find_unqualified, in_entry, at_entry as column_at_entry, find_qualified, find_column}
 use Rattle.sql_bind.proofs.FitsBound.{same_ok}
 use Rattle.sql_bind.proofs.FitsForms.{inner_level}
 use Rattle.sql_bind.proofs.FitsLists.{same_head, position_there, get-append_at, get-take, get-drop}
@@ -156,7 +156,7 @@ module _ (schema : List Table) where
 
   at_entry_found : (table name : List ℕ) (at : Span) (level : Level) (outer : List Level) (term : Term) (o : Option ℕ) →
       (find_qualified schema table name at outer ≡ Ok term → Found outer term) →
-      at_entry schema (length outer) level name at o (find_qualified schema table name at outer) ≡ Ok term → Found (level ∷ outer) term
+      column_at_entry schema (length outer) level name at o (find_qualified schema table name at outer) ≡ Ok term → Found (level ∷ outer) term
   at_entry_found table name at level outer term None outside is = deeper level outer term (outside is)
   at_entry_found table name at level outer term (Some i) outside is =
       in_seen level outer name at i term (slice_get (seen_entries level) i) refl (column_place (columns_at schema (seen_entries level) i) name) refl is
