@@ -24,9 +24,8 @@ use Rattle.ground_theory.specs.declared.literal.Frame.{Frame}
 use Rattle.ground_theory.specs.declared.literal.Literal.{Literal}
 use Rattle.ground_theory.specs.Assignments.{domains_at}
 use Rattle.ground_theory.specs.Fitting.{are_of_one_table, fits, all_fit, is_range, has_ranges}
-use Rattle.ground_theory.specs.Edges.{domain_of, stated}
+use Rattle.ground_theory.specs.Edges.{domain_of, stated, bound}
 use Rattle.ground_theory.specs.Leaves.{bare_column, bare_table, bare_schema, literal_branch}
-use Rattle.ground_theory.specs.SumLeaf.{bound}
 use Rattle.ground_theory.proofs.Moving.{passes}
 use Rattle.ground_theory.proofs.RightLeaves.{literal_of_fact}
 

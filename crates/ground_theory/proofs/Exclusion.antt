@@ -7,10 +7,9 @@ use Rattle.std.proofs.lemmas.List.{length-map}
 use Rattle.std.proofs.lemmas.List.Folds.{list_all-map}
 use Rattle.std.proofs.lemmas.Option.{same_Some, slice_get-map, slice_get_within}
 use Rattle.std.specs.Cmp.{both_ways}
-use Rattle.std.specs.Prelude.{Option, Some, None, slice_get, nat_eq, nat_lt, option_and_then, unwrap_or, if◌then◌else◌}
+use Rattle.std.specs.Prelude.{Option, Some, None, slice_get, nat_eq, option_and_then, unwrap_or, if◌then◌else◌}
 use Rattle.std.specs.List.{list_all, AllByRecursion}
 use Rattle.std.specs.Option.{option_map_or, option_map}
-use Rattle.lint_base.proofs.Lists.{all_at, below_true}
 use Rattle.lint_core.specs.declared.certificate.Step.{Step}
 use Rattle.lint_core.specs.declared.database.Database.{Database}
 use Rattle.lint_core.specs.declared.database.Row.{Row}
@@ -38,7 +37,6 @@ use Rattle.ground_theory.specs.declared.literal.Literal.{Literal}
 use Rattle.ground_theory.specs.Assignments.{IsAssignment, HasAssignment, domains_at, are_in, cells_at, cell_at, side_at, are_one, satisfies, satisfies_all}
 use Rattle.ground_theory.specs.Leaves.{bare_column, bare_table, bare_schema, literal_fact, literal_branch, is_right_leaf}
 use Rattle.ground_theory.proofs.RightLeaves.{right_closes}
-use Rattle.ground_theory.specs.Fitting.{has_tables}
 
 -- ---- the cells of a class in a table
 
@@ -105,7 +103,7 @@ all_pass : {A : Type 0} (p : A → Bool) → ((x : A) → p x ≡ true) → (xs 
 all_pass p each [] = refl
 all_pass p each (x ∷ xs) = and_from (p x) (list_all p xs) (each x) (all_pass p each xs)
 
-sum_of : List ℕ → ℕ
+pub sum_of : List ℕ → ℕ
 sum_of [] = 0
 sum_of (x ∷ xs) = x + sum_of xs
 
@@ -353,16 +351,15 @@ module _ (frame : Frame) (a : Assignment) (is : IsAssignment frame a)
     never_right leaf right = step_realized (bare_schema frame) db of_domains (literal_branch frame literals) places realized leaf [] (right_closes frame literals leaf right)
 
 -- the labels have an upper end
-label_below : (xs : List ℕ) (i x : ℕ) → slice_get xs i ≡ Some x → x < suc (sum_of xs)
+pub label_below : (xs : List ℕ) (i x : ℕ) → slice_get xs i ≡ Some x → x < suc (sum_of xs)
 unfolding sum_of
 label_below [] i x at = cc
 label_below (y ∷ ys) zero x at = let same : y ≡ x = same_Some y x at in omega arith
 label_below (y ∷ ys) (suc i) x at = let more : x < suc (sum_of ys) = label_below ys i x at in omega arith
 
--- the exclusion law
-pub right_leaves_exclude : (frame : Frame) (literals : List Literal) (leaf : Step) → has_tables frame ≡ true → is_right_leaf frame literals leaf ≡ true → HasAssignment frame literals → ⊥
-right_leaves_exclude frame literals leaf tables right some =
-    never_right frame some.assignment some.is table_there (suc (sum_of some.assignment.same)) (label_below some.assignment.same) literals some.satisfied leaf right
-  where
-    table_there : (row table : ℕ) → slice_get frame.tables row ≡ Some table → (ds : List Domain) × (slice_get frame.domains table ≡ Some ds)
-    table_there row table at = there frame.domains table (below_true table (length frame.domains) (all_at (λ table. nat_lt table (length frame.domains)) frame.tables row table tables at))
+-- a right leaf excludes assignments where each row term's table is there
+pub excluded : (frame : Frame) →
+    ((row table : ℕ) → slice_get frame.tables row ≡ Some table → (ds : List Domain) × (slice_get frame.domains table ≡ Some ds)) →
+    (literals : List Literal) (leaf : Step) → is_right_leaf frame literals leaf ≡ true → HasAssignment frame literals → ⊥
+excluded frame tables_there literals leaf right some =
+    never_right frame some.assignment some.is tables_there (suc (sum_of some.assignment.same)) (label_below some.assignment.same) literals some.satisfied leaf right

@@ -33,9 +33,8 @@ use Rattle.ground_theory.specs.declared.literal.Frame.{Frame}
 use Rattle.ground_theory.specs.declared.literal.Literal.{Literal}
 use Rattle.ground_theory.specs.Assignments.{domains_at}
 use Rattle.ground_theory.specs.Fitting.{is_range, has_ranges, has_domains, is_moderate, are_moderate, is_number, is_text, is_number_side, is_text_side, are_of_one_table, fits, all_fit}
-use Rattle.ground_theory.specs.Edges.{side_edges, same_edges, edges_of, edges_from, sum_edges, domain_of, stated, between, IsSystem}
+use Rattle.ground_theory.specs.Edges.{side_edges, same_edges, edges_of, edges_from, sum_edges, domain_of, stated, between, IsSystem, bound, edge_of, HasVariables}
 use Rattle.ground_theory.specs.Leaves.{literal_fact, literal_branch}
-use Rattle.ground_theory.specs.SumLeaf.{bound, edge_of, HasVariables}
 use Rattle.ground_theory.proofs.Bounds.{Has, has_from, InRange, domain_passes, is_low_from, is_high_from, is_same_from, is_back_from, domain_is, one_table, low_of, high_of, same_of}
 use Rattle.ground_theory.proofs.Moving.{passes}
 use Rattle.ground_theory.proofs.RightLeaves.{literal_of_fact}

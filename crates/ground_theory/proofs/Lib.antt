@@ -8,3 +8,4 @@ pub mod Facts
 pub mod TextLeaves
 pub mod TextFacts
 pub mod Exclusion
+pub mod Widened

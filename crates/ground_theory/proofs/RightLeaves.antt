@@ -59,7 +59,7 @@ module _ (frame : Frame) (literals : List Literal) where
       let bs = passes are_closed (children (bare_schema frame) base leaf) is in
       bs.1 ∙ ap Some (closed_is bs.0 bs.2)
 
-  opens_never : (leaf : Step) → Opens leaf → children (bare_schema frame) base leaf ≡ Some [] → ⊥
+  pub opens_never : (leaf : Step) → Opens leaf → children (bare_schema frame) base leaf ≡ Some [] → ⊥
   opens_never (step.And fact) opens is = no_children with_parts (λ b rs a. refl) fact [] is
   opens_never (step.Or fact) opens is = no_children with_each_part (λ b rs a. refl) fact [] is
   opens_never (step.Ex fact) opens is = no_children with_row (λ b rs a. refl) fact [] is
@@ -146,7 +146,7 @@ same_side (side.Cell row column) = refl
 same_side side.Zero = refl
 same_side (side.Text text) = refl
 
-same_atom : (a : Atom) → renamed (λ row. row) a ≡ a
+pub same_atom : (a : Atom) → renamed (λ row. row) a ≡ a
 same_atom (atom.Le left right most) = ap₂ (λ l r. atom.Le l r most) (same_side left) (same_side right)
 same_atom (atom.TextEq left right) = ap₂ atom.TextEq (same_side left) (same_side right)
 same_atom (atom.TextNe left right) = ap₂ atom.TextNe (same_side left) (same_side right)

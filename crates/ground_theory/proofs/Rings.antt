@@ -18,9 +18,9 @@ use Rattle.sort_formula.specs.Rings.{Bound, bounds_of, is_chain, is_ring, sum_of
 use Rattle.ground_theory.specs.declared.literal.Frame.{Frame}
 use Rattle.ground_theory.specs.declared.literal.Literal.{Literal}
 use Rattle.ground_theory.specs.Fitting.{all_fit, has_ranges}
-use Rattle.ground_theory.specs.Edges.{domain_of}
+use Rattle.ground_theory.specs.Edges.{domain_of, bound}
 use Rattle.ground_theory.specs.Leaves.{bare_schema, literal_branch, is_right_leaf}
-use Rattle.ground_theory.specs.SumLeaf.{bound, is_same, low_at, high_at, leads_high, leaves_zero, turned, cut_back, cut_front, cut}
+use Rattle.ground_theory.specs.SumLeaf.{is_same, low_at, high_at, leads_high, leaves_zero, turned, cut_back, cut_front, cut}
 use Rattle.ground_theory.proofs.Bounds.{Has, has_from, InRange, IsLow, IsHigh, IsSame, is_low_from, is_high_from, is_same_from, is_back_from, low_stated, high_stated, low_of, high_of, in_order}
 use Rattle.ground_theory.proofs.Moving.{same_self, one_side}
 

@@ -16,9 +16,9 @@ use Rattle.sort_formula.specs.Rings.{Bound}
 use Rattle.ground_theory.specs.declared.literal.Frame.{Frame}
 use Rattle.ground_theory.specs.declared.literal.Literal.{Literal}
 use Rattle.ground_theory.specs.Fitting.{all_fit, has_ranges}
-use Rattle.ground_theory.specs.Edges.{between, stated, IsSystem}
+use Rattle.ground_theory.specs.Edges.{between, stated, IsSystem, bound}
 use Rattle.ground_theory.specs.Leaves.{is_right_leaf}
-use Rattle.ground_theory.specs.SumLeaf.{bound, origin_at, turned, cut, sum_leaf}
+use Rattle.ground_theory.specs.SumLeaf.{origin_at, turned, cut, sum_leaf}
 use Rattle.ground_theory.proofs.Bounds.{Has, has_from}
 use Rattle.ground_theory.proofs.Rings.{AllHave, AllInside, Chain, Closed, sum, Apart, turned_right, right_ring}
 

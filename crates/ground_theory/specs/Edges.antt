@@ -1,7 +1,7 @@
 -- The difference bounds that literals ask for: each Le, the bounds of the cells that a Le names, and that the cells of a number
 -- column are equal in two rows that are one. A variable stands for a cell, and the first one for zero. An origin is the edge of
 -- a certificate that states a bound.
-use Rattle.std.specs.Prelude.{◌≡◌, ℕ, suc, List, [], ◌∷◌, ◌++◌, Option, Some}
+use Rattle.std.specs.Prelude.{◌≡◌, ℕ, suc, pos, List, [], ◌∷◌, ◌++◌, Option, Some, unwrap_or}
 use Rattle.std.specs.List.{AllZip}
 use Rattle.diff_bounds.specs.declared.system.Edge.{Edge}
 use Rattle.lint_core.specs.declared.certificate.SumEdge.{SumEdge}
@@ -65,7 +65,21 @@ module _ (frame : Frame) (literals : List Literal) where
   abbrev pub stated : SumEdge → Option Bound
   stated e = bound_of (bare_schema frame) (literal_branch frame literals) e
 
+  abbrev pub bound : SumEdge → Bound
+  bound e = unwrap_or (stated e) (record { left = side.Zero; right = side.Zero; most = pos 0 })
+
   -- each edge has the bound that its origin states, and no variable but the first stands for zero
   pub record IsSystem (side_of : ℕ → Side) (origins : List SumEdge) (edges : List Edge) : Type 0 where
     pub zero : (n : ℕ) → side_of n ≡ side.Zero → n ≡ 0
     pub states : AllZip (λ o e. stated o ≡ Some (between side_of e)) origins edges
+
+-- the edge of an origin, between the variables of its sides
+abbrev pub edge_of : Frame → List Literal → (Side → ℕ) → SumEdge → Edge
+edge_of frame literals number o =
+    record { left = number (bound frame literals o).left; right = number (bound frame literals o).right; most = (bound frame literals o).most }
+
+-- each side of an origin's bound has its variable
+abbrev pub HasVariables : Frame → List Literal → (ℕ → Side) → (Side → ℕ) → SumEdge → Type 0
+HasVariables frame literals side_of number o =
+    (side_of (number (bound frame literals o).left) ≡ (bound frame literals o).left)
+    × (side_of (number (bound frame literals o).right) ≡ (bound frame literals o).right)

@@ -1,6 +1,6 @@
 -- Which literals and domains fit a frame: numbers are compared with numbers and texts with texts, only rows of one table are
--- one, no domain is empty, and each row term's table has its domains.
-use Rattle.std.specs.Prelude.{pos, neg_ℤ, ◌^◌, ℕ, Bool, true, false, ◌&&◌, nat_eq, nat_lt, List, length, Option, Some, None, slice_get}
+-- one, and no domain is empty.
+use Rattle.std.specs.Prelude.{pos, neg_ℤ, ◌^◌, ℕ, Bool, true, false, ◌&&◌, nat_eq, List, Option, Some, None, slice_get}
 use Rattle.std.specs.List.{list_all}
 use Rattle.std.specs.Option.{option_map_or}
 use Rattle.lint_core.specs.declared.schema.Domain.{Domain}
@@ -53,10 +53,6 @@ module _ (frame : Frame) where
 
   abbrev pub all_fit : List Literal → Bool
   all_fit literals = list_all (λ (l : Literal). fits l.atom) literals
-
--- each row term's table has its domains
-abbrev pub has_tables : Frame → Bool
-has_tables frame = list_all (λ table. nat_lt table (length frame.domains)) frame.tables
 
 -- a range that is not empty
 abbrev pub is_range : Domain → Bool

@@ -21,11 +21,11 @@ ghost use Rattle.text_classes.specs.Texts as classes;
 ghost use Rattle.ground_theory.specs.declared.literal.Frame.{Frame};
 ghost use Rattle.ground_theory.specs.declared.literal.Literal.{Literal};
 ghost use Rattle.ground_theory.specs.Assignments.{HasAssignment};
-ghost use Rattle.ground_theory.specs.Edges.{edges_of, sum_edges, IsSystem};
-ghost use Rattle.ground_theory.specs.Fitting.{all_fit, are_moderate, has_domains, has_ranges, has_tables};
+ghost use Rattle.ground_theory.specs.Edges.{edge_of, edges_of, sum_edges, HasVariables, IsSystem};
+ghost use Rattle.ground_theory.specs.Fitting.{all_fit, are_moderate, has_domains, has_ranges};
 ghost use Rattle.ground_theory.specs.Leaves.{is_right_leaf};
 ghost use Rattle.ground_theory.specs.Moving.{moved, IsMoved};
-ghost use Rattle.ground_theory.specs.SumLeaf.{edge_of, sum_leaf, HasVariables};
+ghost use Rattle.ground_theory.specs.SumLeaf.{sum_leaf};
 ghost use Rattle.ground_theory.specs.TextEdges.{text_edges, texts_of, text_fact, HasEnds, IsTextSystem};
 ghost use Rattle.ground_theory.specs.TextLeaf.{text_leaf};
 ghost use Rattle.ground_theory.specs.Values.{read, IsMet, IsTextMet};
@@ -113,7 +113,7 @@ pub fn texts_meet_literals()
 
 /// Where a leaf is right over literals, no assignment satisfies them.
 pub fn right_leaves_exclude()
-    ensures { (frame : Frame) (literals : List Literal) (leaf : Step) → has_tables frame ≡ true
+    ensures { (frame : Frame) (literals : List Literal) (leaf : Step)
         → is_right_leaf frame literals leaf ≡ true → HasAssignment frame literals → ⊥ }
 {}
 
