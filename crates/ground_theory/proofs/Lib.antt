@@ -1,0 +1,10 @@
+pub mod Moving
+pub mod RightLeaves
+pub mod Bounds
+pub mod Rings
+pub mod SumLeaves
+pub mod Values
+pub mod Facts
+pub mod TextLeaves
+pub mod TextFacts
+pub mod Exclusion

@@ -1,0 +1,12 @@
+pub mod Assignments
+pub mod Forward
+pub mod Judging
+pub mod Leaves
+pub mod Moving
+pub mod Fitting
+pub mod Edges
+pub mod SumLeaf
+pub mod Values
+pub mod TextEdges
+pub mod TextLeaf
+pub mod Examples

@@ -1,0 +1,134 @@
+//! What a solver's answers about the bounds and texts of literals say of the literals, what a
+//! right leaf says of them, and how it moves. The functions do nothing: each contract is a law
+//! about the definitions in `specs/`.
+ghost use Rattle.std.specs.Prelude.{◌≡◌, ◌≤◌, ◌<◌, ℕ, ℤ, true, List, [], All, length, map, Option, Some, slice_get};
+ghost use Rattle.std.specs.List.{Contains};
+ghost use Rattle.diff_bounds.specs.declared.system.Edge.{Edge};
+ghost use Rattle.diff_bounds.specs.Rings.{IsNegativeRing, IsSimple};
+ghost use Rattle.diff_bounds.specs.System.{IsAmong, IsModerate, Satisfies};
+ghost use Rattle.lint_core.specs.declared.certificate.Step.{Step};
+ghost use Rattle.lint_core.specs.declared.certificate.SumEdge.{SumEdge};
+ghost use Rattle.lint_core.specs.declared.certificate.TextEdge.{TextEdge};
+ghost use Rattle.lint_core.specs.declared.schema.Table.{Table};
+ghost use Rattle.sort_formula.specs.declared.formula.Side.{Side};
+ghost use Rattle.sort_formula.specs.declared.formula.Side.TheVariants.{Zero, Text};
+ghost use Rattle.sort_formula.specs.Certificate.{children};
+ghost use Rattle.sort_formula.specs.Facts.{Branch};
+ghost use Rattle.text_classes.specs.declared.facts.TextEnd.{TextEnd};
+ghost use Rattle.text_classes.specs.declared.facts.TextFact.{TextFact};
+ghost use Rattle.text_classes.specs.Paths.{IsPath};
+ghost use Rattle.text_classes.specs.Texts as classes;
+ghost use Rattle.ground_theory.specs.declared.literal.Frame.{Frame};
+ghost use Rattle.ground_theory.specs.declared.literal.Literal.{Literal};
+ghost use Rattle.ground_theory.specs.Assignments.{HasAssignment};
+ghost use Rattle.ground_theory.specs.Edges.{edges_of, sum_edges, IsSystem};
+ghost use Rattle.ground_theory.specs.Fitting.{all_fit, are_moderate, has_domains, has_ranges, has_tables};
+ghost use Rattle.ground_theory.specs.Leaves.{is_right_leaf};
+ghost use Rattle.ground_theory.specs.Moving.{moved, IsMoved};
+ghost use Rattle.ground_theory.specs.SumLeaf.{edge_of, sum_leaf, HasVariables};
+ghost use Rattle.ground_theory.specs.TextEdges.{text_edges, texts_of, text_fact, HasEnds, IsTextSystem};
+ghost use Rattle.ground_theory.specs.TextLeaf.{text_leaf};
+ghost use Rattle.ground_theory.specs.Values.{read, IsMet, IsTextMet};
+
+/// Of literals that fit, the bounds that they ask for are a system, whatever part of them is taken
+/// and however the sides are numbered.
+pub fn literals_make_systems()
+    ensures { (frame : Frame) (literals : List Literal) (side_of : ℕ → Side) (number : Side → ℕ)
+        (origins : List SumEdge) → all_fit frame literals ≡ true
+        → ((n : ℕ) → side_of n ≡ Zero → n ≡ 0)
+        → All (Contains (sum_edges frame literals)) origins
+        → All (HasVariables frame literals side_of number) origins
+        → IsSystem frame literals side_of origins (map (edge_of frame literals number) origins) }
+{}
+
+/// Where the domains are those of a schema's columns, the bounds of such a system are not too
+/// large for `solve`.
+pub fn systems_are_moderate()
+    ensures { (frame : Frame) (literals : List Literal) (number : Side → ℕ)
+        (origins : List SumEdge) → all_fit frame literals ≡ true → has_domains frame ≡ true
+        → are_moderate literals ≡ true → All (Contains (sum_edges frame literals)) origins
+        → All IsModerate (map (edge_of frame literals number) origins) }
+{}
+
+/// The domains of a schema's columns are ranges that are not empty.
+pub fn domains_are_ranges()
+    ensures { (frame : Frame) → has_domains frame ≡ true → has_ranges frame ≡ true }
+{}
+
+/// A closed chain of the system's edges with a negative sum, in which no two edges have the same
+/// left end, makes a right leaf. `solve` answers such a chain.
+pub fn rings_make_leaves()
+    ensures { (frame : Frame) (literals : List Literal) (side_of : ℕ → Side)
+        (origins : List SumEdge) (edges : List Edge) (ring : List ℕ)
+        → all_fit frame literals ≡ true → has_ranges frame ≡ true
+        → IsSystem frame literals side_of origins edges
+        → IsNegativeRing edges ring → IsSimple edges ring → length ring ≤ 32769
+        → is_right_leaf frame literals (sum_leaf frame literals origins ring) ≡ true }
+{}
+
+/// Values that satisfy the system's edges meet each literal whose edges are in the system: they
+/// satisfy a Le and are of its cells' domains, and are the same in rows that are one.
+pub fn values_meet_literals()
+    ensures { (frame : Frame) (literals : List Literal) (side_of : ℕ → Side) (number : Side → ℕ)
+        (vars : ℕ) (origins : List SumEdge) (edges : List Edge) (value : ℕ → ℤ)
+        → IsSystem frame literals side_of origins edges → All (IsAmong vars) edges
+        → ((n : ℕ) → n < vars → number (side_of n) ≡ n) → Satisfies value edges
+        → (fact : ℕ) (l : Literal) → slice_get literals fact ≡ Some l
+        → All (Contains origins) (edges_of frame fact l.atom)
+        → IsMet frame literals (read value number) l.atom }
+{}
+
+/// Of literals that fit, the facts about texts that they ask for are a system, whatever part of
+/// them is taken and however the sides are numbered.
+pub fn literals_make_texts()
+    ensures { (frame : Frame) (literals : List Literal) (side_of : ℕ → Side)
+        (end_of_side : Side → TextEnd) (origins : List TextEdge) → all_fit frame literals ≡ true
+        → All (Contains (text_edges frame literals)) origins
+        → All (HasEnds frame literals side_of end_of_side) origins
+        → IsTextSystem frame literals side_of origins
+        (map (text_fact frame literals end_of_side) origins) }
+{}
+
+/// A path of the system's facts makes a right leaf. `classes` answers such a path.
+pub fn paths_make_leaves()
+    ensures { (frame : Frame) (literals : List Literal) (side_of : ℕ → Side)
+        (origins : List TextEdge) (facts : List TextFact) (last : Option ℕ) (path : List ℕ)
+        → IsTextSystem frame literals side_of origins facts → IsPath facts last path
+        → is_right_leaf frame literals (text_leaf origins facts last path) ≡ true }
+{}
+
+/// Texts that satisfy the system's facts meet each literal whose facts are in the system: they
+/// satisfy a TextEq and a TextNe, and are the same in rows that are one.
+pub fn texts_meet_literals()
+    ensures { (frame : Frame) (literals : List Literal) (side_of : ℕ → Side) (vars : ℕ)
+        (origins : List TextEdge) (facts : List TextFact) (value : ℕ → List ℕ)
+        (texts : Side → List ℕ) → IsTextSystem frame literals side_of origins facts
+        → All (classes.IsAmong vars) facts → classes.Satisfies value facts
+        → ((n : ℕ) → n < vars → texts (side_of n) ≡ value n)
+        → ((text : List ℕ) → texts (Text text) ≡ text)
+        → (fact : ℕ) (l : Literal) → slice_get literals fact ≡ Some l
+        → All (Contains origins) (texts_of frame fact l.atom)
+        → IsTextMet frame literals texts l.atom }
+{}
+
+/// Where a leaf is right over literals, no assignment satisfies them.
+pub fn right_leaves_exclude()
+    ensures { (frame : Frame) (literals : List Literal) (leaf : Step) → has_tables frame ≡ true
+        → is_right_leaf frame literals leaf ≡ true → HasAssignment frame literals → ⊥ }
+{}
+
+/// A right leaf over literals, with other numbers of facts and rows, closes a branch whose facts
+/// at these numbers say what the literals say of these rows. So it is right over literals among
+/// which these stand at other places.
+pub fn leaves_move()
+    ensures closing { (frame : Frame) (literals : List Literal) (leaf : Step)
+        → is_right_leaf frame literals leaf ≡ true
+        → (facts rows : ℕ → ℕ) (schema : List Table) (branch : Branch)
+        → IsMoved frame literals facts rows schema branch
+        → children schema branch (moved facts rows leaf) ≡ Some [] }
+    ensures renumbered { (frame : Frame) (literals : List Literal) (leaf : Step)
+        → is_right_leaf frame literals leaf ≡ true → (facts : ℕ → ℕ) (others : List Literal)
+        → ((i : ℕ) (l : Literal) → slice_get literals i ≡ Some l
+        → slice_get others (facts i) ≡ Some l)
+        → is_right_leaf frame others (moved facts (λ row. row) leaf) ≡ true }
+{}
