@@ -1,0 +1,4 @@
+pub mod Numbering
+pub mod Layers
+pub mod Hung
+pub mod Sampled

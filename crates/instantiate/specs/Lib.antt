@@ -1,0 +1,5 @@
+pub mod Keys
+pub mod Ground
+pub mod Cases
+pub mod Hanging
+pub mod Examples

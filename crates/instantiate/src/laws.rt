@@ -1,0 +1,19 @@
+//! How the clauses of a problem hang together. The function does nothing: its contract is a law
+//! about the definitions in `specs/`.
+ghost use Rattle.std.specs.Prelude.{◌≡◌, ℕ, true, List, Some, slice_get};
+ghost use Rattle.lint_core.specs.declared.schema.Table.{Table};
+ghost use Rattle.sort_formula.specs.declared.formula.Formula.{Formula};
+ghost use Rattle.sort_formula.specs.Sentences.{is_sentence};
+ghost use Rattle.instantiate.specs.Cases.{IsProblem};
+ghost use Rattle.instantiate.specs.Hanging.{Hanging};
+ghost use Rattle.instantiate.specs.declared.problem.Problem.{Problem};
+
+/// Where each formula of a problem is a sentence, the clauses of the problem hang together: each
+/// stands for a sentence or below another clause, and below each clause hang exactly the parts of
+/// what stands there.
+pub fn clauses_hang_together()
+    ensures { (schema : List Table) (problem : Problem) → IsProblem schema problem
+        → ((sentence : ℕ) (formula : Formula)
+        → slice_get problem.sentences sentence ≡ Some formula → is_sentence formula ≡ true)
+        → Hanging problem }
+{}

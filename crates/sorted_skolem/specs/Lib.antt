@@ -1,0 +1,3 @@
+pub mod Preorder
+pub mod Graph
+pub mod Terms
