@@ -1,0 +1,4 @@
+pub mod Places
+pub mod Closed
+pub mod Counting
+pub mod Forcing

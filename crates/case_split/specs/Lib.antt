@@ -1,0 +1,6 @@
+pub mod Choices
+pub mod Cases
+pub mod Trees
+pub mod Trails
+pub mod Answers
+pub mod inner

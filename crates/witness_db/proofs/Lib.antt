@@ -1,0 +1,3 @@
+pub mod Standing
+pub mod Domains
+pub mod Axioms
