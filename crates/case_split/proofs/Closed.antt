@@ -21,8 +21,9 @@ use Rattle.case_split.specs.Choices.{Choices, takes, is_chosen, is_reached, is_w
 use Rattle.case_split.specs.Cases.{IsFullCase}
 use Rattle.case_split.specs.Trees.{is_same_guard, is_among, are_among, literal_at, literals_at, Meaning, ways_closed, split_closed, closed_step, is_closed}
 use Rattle.ground_theory.specs.Forward.{guards_before, are_forward, are_forward_from}
+use Rattle.ground_theory.proofs.Moving.{passes}
 use Rattle.ground_theory.proofs.Widened.{right_leaves_exclude}
-use Rattle.case_split.proofs.Places.{passes, there, take_at}
+use Rattle.case_split.proofs.Places.{there, take_at}
 
 -- ---- guards
 

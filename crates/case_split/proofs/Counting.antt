@@ -1,6 +1,6 @@
 -- The order of choices, and which cases are counted.
 use Rattle.std.proofs.Common.{◌≡◌, ap, ap₂, refl, ℕ, ◌<◌, ◌⊎◌, inl, inr, Bool, true, false, ◌&&◌, ◌||◌, List, [], ◌∷◌, length, arith}
-use Rattle.std.proofs.lemmas.Bool.{and_parts, and_from, or_cases, or_left, or_right, eqb-true}
+use Rattle.std.proofs.lemmas.Bool.{and_parts, and_from, or_cases, or_parts, or_left, or_right, eqb-true}
 use Rattle.std.proofs.lemmas.Bool.Decides.{nat_tests}
 use Rattle.std.specs.Prelude.{Option, Some, None, nat_lt, nat_eq}
 use Rattle.ground_theory.specs.declared.literal.Clause.{Clause}
@@ -22,10 +22,6 @@ equal_back None None is = refl
 equal_back None (Some w) is = cc
 equal_back (Some v) None is = cc
 equal_back (Some v) (Some w) is = grind (arith, nat_tests)
-
-neither : (a b : Bool) → (a || b) ≡ false → (a ≡ false) × (b ≡ false)
-neither true b is = cc
-neither false b is = (refl, is)
 
 and_false : (a b : Bool) → (a && b) ≡ false → a ≡ true → b ≡ false
 and_false true b is first = is
@@ -56,8 +52,8 @@ neither_before [] [] one other = refl
 neither_before [] (y ∷ ys) one other = cc
 neither_before (x ∷ xs) [] one other = cc
 neither_before (x ∷ xs) (y ∷ ys) one other =
-    let first = neither (is_less x y) (is_equal x y && stands_before xs ys) one in
-    let second = neither (is_less y x) (is_equal y x && stands_before ys xs) other in
+    let first = or_parts (is_less x y) (is_equal x y && stands_before xs ys) one in
+    let second = or_parts (is_less y x) (is_equal y x && stands_before ys xs) other in
     let same = one_of x y first.0 second.0 in
     ap₂ (λ (z : Option ℕ) (zs : Choices). z ∷ zs) (same_way x y same)
     (neither_before xs ys (and_false (is_equal x y) (stands_before xs ys) first.1 same) (and_false (is_equal y x) (stands_before ys xs) second.1 (equal_back x y same)))

@@ -10,9 +10,9 @@
 //! laws.
 //!
 //! Of `specs/` a reader must believe `Choices` and `Cases` (what a case is, which are full, which
-//! are counted), `Trees` (when a tree is closed) and `Answers`; of the law on trails `Trails` too.
-//! `specs/inner` is cited by the proof of `give_up` alone, which promises only that it comes to
-//! an end.
+//! are counted) and `Trees` (when a tree is closed); of the law on trails `Trails` too. No
+//! contract cites `Answers` yet. `specs/inner` is cited by the proof of `give_up` alone, which
+//! promises nothing but to come to an end.
 #![tactic(auto)]
 
 mod giving_up;

@@ -37,7 +37,8 @@ use Rattle.case_split.specs.Cases.{IsFullCase}
 use Rattle.ground_theory.specs.Forward.{guards_before}
 use Rattle.sorted_skolem.specs.Preorder.{Node, outlines_of, node_at}
 use Rattle.case_split.proofs.Closed.{choice_at, way_taken, literal_passes, forward_at}
-use Rattle.case_split.proofs.Places.{passes, there as standing}
+use Rattle.ground_theory.proofs.Moving.{passes}
+use Rattle.case_split.proofs.Places.{there as standing}
 use Rattle.instantiate.specs.declared.problem.Problem.{Problem}
 use Rattle.instantiate.specs.Cases.{is_taken, is_present, IsCells, IsDatabaseOf, places_at}
 use Rattle.instantiate.specs.Ground.{ways_in, maker_of, variables_of}

@@ -1,0 +1,4 @@
+pub mod Growing
+pub mod Refuting
+pub mod Leaves
+pub mod Starting
