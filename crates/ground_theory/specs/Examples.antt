@@ -13,15 +13,15 @@ use Rattle.ground_theory.specs.declared.literal.Literal.{Literal}
 abbrev pub numbers : Frame
 numbers = record { tables = 0 ∷ 0 ∷ 0 ∷ []; domains = (domain.Number (negsuc 32767) (pos 32767) Whole ∷ []) ∷ [] }
 
--- rows 0 and 1 are one, and the cell of row 1 is below the least of its domain
+-- rows 0 and 1 are one, and the cell of row term 1 is below the least of its domain
 abbrev pub low : List Literal
 low = record { atom = atom.Same 0 1 } ∷ record { atom = atom.Le (side.Cell 1 0) side.Zero (negsuc 39999) } ∷ []
 
--- the cell of row 1, which is row 2, is above the greatest of its domain
+-- the cell of row term 1, which is row 2, is above the greatest of its domain
 abbrev pub high : List Literal
 high = record { atom = atom.Le side.Zero (side.Cell 1 0) (negsuc 39999) } ∷ record { atom = atom.Same 2 1 } ∷ []
 
--- the cell of row 0 is less than that of row 1, and rows 0 and 1 are one
+-- the cell of row term 0 is less than that of row term 1, and rows 0 and 1 are one
 abbrev pub loop : List Literal
 loop = record { atom = atom.Le (side.Cell 0 0) (side.Cell 1 0) (negsuc 0) } ∷ record { atom = atom.Same 0 1 } ∷ []
 
@@ -29,7 +29,7 @@ loop = record { atom = atom.Le (side.Cell 0 0) (side.Cell 1 0) (negsuc 0) } ∷ 
 abbrev pub texts : Frame
 texts = record { tables = 0 ∷ 0 ∷ []; domains = (domain.Text 10 ∷ []) ∷ [] }
 
--- the text 7 is the cell of row 0, rows 0 and 1 are one, and the cell of row 1 is the text 8
+-- the text 7 is the cell of row term 0, rows 0 and 1 are one, and the cell of row term 1 is the text 8
 abbrev pub two_texts : List Literal
 two_texts =
     record { atom = atom.TextEq (side.Cell 0 0) (side.Text (7 ∷ [])) }
