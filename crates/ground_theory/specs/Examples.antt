@@ -17,7 +17,7 @@ numbers = record { tables = 0 ∷ 0 ∷ 0 ∷ []; domains = (domain.Number (negs
 abbrev pub low : List Literal
 low = record { atom = atom.Same 0 1 } ∷ record { atom = atom.Le (side.Cell 1 0) side.Zero (negsuc 39999) } ∷ []
 
--- the cell of row term 1, which is row 2, is above the greatest of its domain
+-- the cell of row term 1, which is row term 2, is above the greatest of its domain
 abbrev pub high : List Literal
 high = record { atom = atom.Le side.Zero (side.Cell 1 0) (negsuc 39999) } ∷ record { atom = atom.Same 2 1 } ∷ []
 

@@ -12,10 +12,10 @@ ghost use Rattle.ground_theory.specs.TextEdges.{text_edges};
 ghost use Rattle.ground_theory.specs.TextLeaf.{text_leaf};
 ghost use Rattle.ground_theory.specs.Examples.{numbers, low, high, loop, texts, two_texts, two_facts};
 
-/// A ring from the cell of row term 0 on is turned to begin at zero, with the Low at the row that the
-/// Le names; with the Low at the other row it is not right. The High stands at the row that the Le
-/// names too. A ring without zero stays as it is. A chain of texts may begin at the right side of
-/// its first fact.
+/// A ring from the cell of row term 0 on is turned to begin at zero, with the Low at the row that
+/// the Le names; with the Low at the other row it is not right. The High stands at the row that
+/// the Le names too. A ring without zero stays as it is. A chain of texts may begin at the right
+/// side of its first fact.
 pub fn worked_leaves()
     ensures low_fits { all_fit numbers low ≡ true }
     ensures low_edges { sum_edges numbers low
