@@ -18,7 +18,8 @@ ghost use Rattle.worked_laws.specs.SchemaExamples.{numbers, with_domain, with_si
 /// Schemas by their domains, sizes, keys and foreign keys.
 pub fn worked_schemas()
     ensures known_domains { list_all is_schema (map with_domain (
-        numbers 32768 32767 ∷ numbers 2147483648 2147483647 ∷ numbers 9223372036854775808 9223372036854775807
+        numbers 32768 32767 ∷ numbers 2147483648 2147483647
+        ∷ numbers 9223372036854775808 9223372036854775807
         ∷ Text 1 ∷ Text 65535 ∷ [])) ≡ true }
     ensures other_domains { list_any is_schema (map with_domain (
         numbers 32768 32766 ∷ numbers 32767 32767 ∷ numbers 0 65535 ∷ numbers 32768 2147483647
@@ -36,7 +37,8 @@ pub fn worked_schemas()
     ensures keys_of_no_column { list_any is_schema (map with_key ((3 ∷ []) ∷ (1 ∷ 3 ∷ []) ∷ []))
         ≡ false }
 
-    // columns of the second table, the number of a table, and columns there; a SMALLINT may stand beside an INTEGER,
+    // columns of the second table, the number of a table, and columns there; a SMALLINT may stand
+    // beside an INTEGER,
     // and the columns of a key in either order
     ensures foreign_keys { list_all is_schema (map with_foreign (
         (2 ∷ [], 0, 0 ∷ []) ∷ (0 ∷ [], 0, 0 ∷ []) ∷ (2 ∷ [], 1, 0 ∷ [])
@@ -162,7 +164,8 @@ pub fn worked_first_forms()
         above_five ∷ And (above_five ∷ above_five ∷ []) ∷ [])) ≡ true }
     ensures other_filters { list_any (is_first_form (table_t column_a []))
         (map (select_a (codes "T" ∷ [])) (
-        comparison (the_number, Ne, five) ∷ comparison (Cell 0 0 0 (pos 1), Gt, five) ∷ comparison (cell 0 0 1, Gt, five)
+        comparison (the_number, Ne, five) ∷ comparison (Cell 0 0 0 (pos 1), Gt, five)
+        ∷ comparison (cell 0 0 1, Gt, five)
         ∷ comparison (the_number, Gt, the_number) ∷ comparison (the_number, Gt, Null)
         ∷ And (above_five ∷ []) ∷ Or (above_five ∷ above_five ∷ []) ∷ [])) ≡ false }
     ensures other_entries { list_any (is_first_form (table_t column_a []))
@@ -172,7 +175,8 @@ pub fn worked_first_forms()
         record the_query { items = starred ∷ [] } ∷ record the_query { distinct = Some nowhere }
         ∷ record the_query { order = the_number ∷ [] } ∷ []) ≡ false }
     ensures other_tables { list_any (λ schema. is_first_form schema the_query) (
-        table_t (record column_a { not_null = true }) [] ∷ table_t (record column_a { domain = Text 3 }) []
+        table_t (record column_a { not_null = true }) []
+        ∷ table_t (record column_a { domain = Text 3 }) []
         ∷ table_t (record column_a { name = codes "a" }) []
         ∷ table_t column_a (record { columns = 0 ∷ [] } ∷ []) ∷ []) ≡ false }
 {}

@@ -67,7 +67,8 @@ pub fn worked_counters()
     ensures none_or_two { counter plain middle (NeedlessJoin 1) Null
         ≡ record {
           lead = 0 ∷ 2 ∷ [];
-          body = And (And [] ∷ Or (Forall 1 (Or []) ∷ Exists 1 (Exists 1 (And (And [] ∷ And [] ∷ Fact (Other 2 3) ∷ []))) ∷ []) ∷ []);
+          body = And (And [] ∷ Or (Forall 1 (Or []) ∷ Exists 1 (Exists 1 (And (And []
+              ∷ And [] ∷ Fact (Other 2 3) ∷ []))) ∷ []) ∷ []);
         } }
     ensures none_fits { points_of middle (NeedlessJoin 1) (4 ∷ 6 ∷ []) None
         ≡ Without (rows ((4 ∷ 6 ∷ []) ∷ [])) }
