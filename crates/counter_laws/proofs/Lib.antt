@@ -1,0 +1,16 @@
+mod Loosely
+mod Leading
+mod Standing
+mod Columns
+mod ColumnFits
+mod Single
+mod Exists
+mod Back
+mod PointsBack
+mod Twice
+mod NotIns
+mod Levels
+mod Scalars
+mod Distinct
+mod Entries
+mod RowByRow

@@ -1,0 +1,2 @@
+pub mod LeadingRows
+pub mod Joins
