@@ -14,3 +14,6 @@ mod Scalars
 mod Distinct
 mod Entries
 mod RowByRow
+mod Join
+mod JoinParts
+mod Whole

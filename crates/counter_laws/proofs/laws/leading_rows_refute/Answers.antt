@@ -1,8 +1,4 @@
-use Rattle.std.proofs.Common.{◌≡◌}
 use Rattle.counter_laws.proofs.RowByRow.{says}
-use Rattle.counter_laws.proofs.Entries as entries
-use Rattle.counter_laws.proofs.Exists as exists
-use Rattle.counter_laws.proofs.PointsBack as pointsback
 use Rattle.counter_laws.proofs.laws.leading_rows_refute.Goals as goal
 
 pub returns : goal.returns
