@@ -1,13 +1,12 @@
 -- Points that have the form of a question are those that some leading rows make.
-use Rattle.std.proofs.Common.{◌≡◌, ◌∙◌, ◌<◌, refl, sym, ap, ap₂, subst, ℕ, zero, suc, Bool, true, false, ◌&&◌, not, List, [], ◌∷◌, ◌++◌, length, map, nat_eq, nat_lt, take, drop, arith}
+use Rattle.std.proofs.Common.{◌≡◌, ◌∙◌, ◌<◌, refl, sym, ap, ap₂, ℕ, zero, suc, Bool, true, false, ◌&&◌, not, List, [], ◌∷◌, ◌++◌, length, map, nat_eq, nat_lt, take, drop, arith}
 use Rattle.std.proofs.Math.Seq.{take-append_seam, drop-append_seam}
 use Rattle.std.proofs.lemmas.Bool.Decides.{nat_tests}
-use Rattle.std.proofs.lemmas.List.{append-nil, append_assoc, take_all}
+use Rattle.std.proofs.lemmas.List.{append_assoc}
 use Rattle.std.specs.Option.{option_map_or}
-use Rattle.std.specs.Prelude.{Option, Some, None, slice_get, unwrap_or, insert, remove}
+use Rattle.std.specs.Prelude.{slice_get, unwrap_or, insert, remove}
 use Rattle.lint_base.proofs.Lists.{both_left, both_right}
 use Rattle.lint_core.specs.declared.condition.Entry.{Entry}
-use Rattle.lint_core.specs.declared.database.Binding.{Binding}
 use Rattle.lint_core.specs.declared.database.Database.{Database}
 use Rattle.lint_core.specs.Database.{rows_of}
 use Rattle.lint_core.specs.Fits.{tables_of}
@@ -16,8 +15,6 @@ use Rattle.sort_formula.specs.CounterPoints.{in_levels}
 use Rattle.sort_formula.specs.Counters.{outer_levels, last_level}
 use Rattle.sort_formula.specs.Sides.{all_of}
 use Rattle.truth_laws.proofs.Fitting.{both_are}
-use Rattle.formula_laws.proofs.LeadRows.{as_many}
-use Rattle.truth_laws.proofs.Shapes.{binding_shape}
 
 never : (b : Bool) → (b && false) ≡ true → ⊥
 never true is = cc

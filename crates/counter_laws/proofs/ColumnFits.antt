@@ -1,8 +1,7 @@
 -- The formula that two columns are not distinct fits the schema, so that its negation holds where they are distinct.
-use Rattle.std.proofs.Common.{◌≡◌, ◌∙◌, refl, sym, ap, ℕ, ℤ, pos, Bool, true, false, ◌&&◌, ◌||◌, not, List, [], ◌∷◌, length, map, if◌then◌else◌}
+use Rattle.std.proofs.Common.{◌≡◌, ◌∙◌, sym, ap, ℕ, ℤ, pos, Bool, true, false, ◌&&◌, ◌||◌, not, List, [], ◌∷◌, if◌then◌else◌}
 use Rattle.std.specs.List.{list_all}
-use Rattle.std.specs.Option.{option_map_or}
-use Rattle.std.specs.Prelude.{Option, Some, None, unwrap_or}
+use Rattle.std.specs.Prelude.{Option, Some, None}
 use Rattle.lint_tables.specs.declared.op.Op.TheVariants.{Eq}
 use Rattle.lint_base.proofs.Lists.{and_true, both_left, both_right}
 use Rattle.lint_core.specs.declared.condition.Term.{Term}
@@ -14,7 +13,7 @@ use Rattle.lint_core.specs.declared.scope.Scope.{Scope}
 use Rattle.lint_core.specs.Condition.{term_value}
 use Rattle.lint_core.specs.Comparison.{are_not_distinct}
 use Rattle.lint_core.specs.Database.{Place}
-use Rattle.lint_core.specs.Fits.{term_kind, at_entry}
+use Rattle.lint_core.specs.Fits.{term_kind}
 use Rattle.lint_core.specs.Kind.{are_of_one_kind, compares_both, goes_with}
 use Rattle.lint_core.specs.Meets.{is_of_domains}
 use Rattle.sort_formula.specs.declared.formula.Atom.TheVariants as atom
@@ -27,7 +26,7 @@ use Rattle.sort_formula.specs.Holds.{holds, side_value}
 use Rattle.sort_formula.specs.Negated.{negated}
 use Rattle.sort_formula.specs.Rows.{tables_of_rows}
 use Rattle.sort_formula.specs.Sentences.{formula_fits}
-use Rattle.sort_formula.specs.Sides.{side_of, added_to, is_text_term, is_null_formula, compare_formula}
+use Rattle.sort_formula.specs.Sides.{side_of, is_text_term, is_null_formula}
 use Rattle.sort_formula.proofs.Fitting.{fits_atom, fits_and, fits_or}
 use Rattle.formula_laws.proofs.Complements.{complements}
 use Rattle.truth_laws.proofs.Cells.{says}

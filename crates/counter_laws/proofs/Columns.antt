@@ -1,13 +1,12 @@
 -- What the formulas of a column say, where the variables have the rows of a binding: that it is NULL, that it differs
 -- from a value, that it is not distinct from another.
-use Rattle.std.proofs.Common.{◌≡◌, ◌∙◌, refl, sym, ap, ap₂, subst, ℕ, ℤ, pos, neg_ℤ, ◌-ℤ◌, Bool, true, false, ◌&&◌, ◌||◌, not, List, [], ◌∷◌, length, map, if◌then◌else◌, arith}
-use Rattle.std.proofs.lemmas.Bool.Decides.{Decides-int_eq}
+use Rattle.std.proofs.Common.{◌≡◌, ◌∙◌, refl, sym, ap, ap₂, subst, ℕ, ℤ, pos, neg_ℤ, ◌-ℤ◌, Bool, true, false, ◌&&◌, ◌||◌, not, List, [], ◌∷◌, length, map, arith}
 use Rattle.std.proofs.lemmas.Int.{ints}
 use Rattle.std.specs.List.{list_all, list_any}
 use Rattle.std.specs.Option.{option_map_or}
 use Rattle.std.specs.Ordering.{int_eq}
-use Rattle.std.specs.Prelude.{Option, Some, None, is_some, unwrap_or}
-use Rattle.lint_base.proofs.Lists.{and_true, or_false, both_left, both_right}
+use Rattle.std.specs.Prelude.{Option, Some, None, is_some}
+use Rattle.lint_base.proofs.Lists.{and_true, or_false}
 use Rattle.lint_core.specs.declared.condition.Term.{Term}
 use Rattle.lint_core.specs.declared.condition.Term.TheVariants as term
 use Rattle.lint_core.specs.declared.database.Database.{Database}
@@ -21,22 +20,19 @@ use Rattle.lint_core.specs.Comparison.{plus, is_null, is_same_text, are_equal, a
 use Rattle.lint_core.specs.Condition.{term_value}
 use Rattle.lint_core.specs.Database.{Place}
 use Rattle.lint_core.specs.Domain.{int_le}
-use Rattle.lint_core.specs.Fits.{term_kind, term_fits, is_plain, at_entry}
+use Rattle.lint_core.specs.Fits.{term_kind, term_fits, is_plain}
 use Rattle.lint_core.specs.Kind.{is_text, are_of_one_kind}
 use Rattle.lint_core.specs.Meets.{is_of_domains}
 use Rattle.lint_core.specs.Subqueries.{is_column}
-use Rattle.lint_core.specs.Truth.{is_true, truth_of}
 use Rattle.sort_formula.specs.declared.formula.Atom.TheVariants as atom
 use Rattle.sort_formula.specs.declared.formula.Formula.{Formula}
 use Rattle.sort_formula.specs.declared.formula.Formula.TheVariants as f
 use Rattle.sort_formula.specs.declared.formula.Side.{Side}
-use Rattle.sort_formula.specs.declared.formula.Side.TheVariants as side
 use Rattle.sort_formula.specs.Cells.{le, equal_cells}
 use Rattle.sort_formula.specs.Counters.{not_distinct}
 use Rattle.sort_formula.specs.Holds.{holds, side_value, differ_by_at_most, are_texts}
-use Rattle.sort_formula.specs.Sides.{side_of, added_to, is_null_term, is_text_term, is_null_formula, not_null_formula}
-use Rattle.sort_formula.proofs.Holding.{holds_atom, holds_and, holds_or}
-use Rattle.formula_laws.proofs.Cells.{may_be_number, may_be_text}
+use Rattle.sort_formula.specs.Sides.{side_of, is_text_term, is_null_formula, not_null_formula}
+use Rattle.sort_formula.proofs.Holding.{holds_and, holds_or}
 use Rattle.truth_laws.proofs.Cells.{says}
 use Rattle.truth_laws.proofs.Comparing.{Says}
 use Rattle.truth_laws.proofs.Leaves.{TermStands, null_says}

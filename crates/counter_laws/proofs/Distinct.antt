@@ -1,11 +1,11 @@
 -- A needless DISTINCT: the body of the counter sentence holds at the leading rows exactly where the two bindings made of
 -- them refute the question loosely.
-use Rattle.std.proofs.Common.{◌≡◌, ◌∙◌, ◌+◌, refl, sym, ap, ap₂, subst, ℕ, ℤ, Bool, true, false, ◌&&◌, not, List, [], ◌∷◌, ◌++◌, length, map, take, drop, if◌then◌else◌, arith}
+use Rattle.std.proofs.Common.{◌≡◌, ◌∙◌, ◌+◌, refl, sym, ap, ap₂, ℕ, ℤ, Bool, true, false, ◌&&◌, not, List, [], ◌∷◌, ◌++◌, length, take, drop, if◌then◌else◌, arith}
 use Rattle.std.proofs.lemmas.Cmp.{int_eq_equiv, nat_list_eq_equiv}
 use Rattle.std.proofs.lemmas.List.{length-append, length-drop, length-take-le, take-append-drop, take_all}
 use Rattle.std.proofs.lemmas.List.Folds.{list_all-map}
 use Rattle.std.specs.List.{list_all, filter}
-use Rattle.std.specs.Prelude.{Ok, Some, None}
+use Rattle.std.specs.Prelude.{None}
 use Rattle.lint_base.proofs.Lists.{and_true, both_left, both_right}
 use Rattle.lint_core.specs.declared.condition.Cond.TheVariants as c
 use Rattle.lint_core.specs.declared.condition.Term.{Term}
@@ -23,31 +23,26 @@ use Rattle.lint_core.specs.Asked.{main_condition, main_entries}
 use Rattle.lint_core.specs.Comparison.{are_not_distinct}
 use Rattle.lint_core.specs.Condition.{term_value}
 use Rattle.lint_core.specs.Database.{Place}
-use Rattle.lint_core.specs.Evaluation.{Evaluated, map_ok}
 use Rattle.lint_core.specs.Fits.{cond_fits, item_fits, term_fits, is_plain, query_fits, main_tables, tables_of}
 use Rattle.lint_core.specs.Forms.{is_main_binding}
 use Rattle.lint_core.specs.Meets.{is_of_domains}
 use Rattle.lint_core.specs.Points.{are_rows, is_same_binding, are_same_rows}
-use Rattle.lint_core.specs.Question.{all_true, are_same_items, is_known_true}
+use Rattle.lint_core.specs.Question.{are_same_items}
 use Rattle.lint_core.specs.Subqueries.{is_column}
-use Rattle.lint_core.specs.Truth.{truth_of}
-use Rattle.sort_formula.specs.declared.formula.Formula.{Formula}
-use Rattle.sort_formula.specs.declared.formula.Formula.TheVariants as f
 use Rattle.sort_formula.specs.CounterPoints.{differ_somewhere, main_binding, points_of}
 use Rattle.sort_formula.specs.Counters.{counter, items_alike, not_distinct, one_scope, two_scope, some_other}
 use Rattle.sort_formula.specs.Holds.{holds}
-use Rattle.sort_formula.specs.Loose.{by_formula, rows_at, refutes_loosely}
-use Rattle.sort_formula.specs.Sides.{from_number, is_text_term, scope_of}
+use Rattle.sort_formula.specs.Loose.{rows_at, refutes_loosely}
+use Rattle.sort_formula.specs.Sides.{from_number, scope_of}
 use Rattle.sort_formula.specs.Translation.{is_true_formula}
 use Rattle.sort_formula.proofs.Holding.{holds_and}
 use Rattle.formula_laws.proofs.LeadRows.{as_many, one_level_is, rows_fall}
-use Rattle.truth_laws.proofs.Quantified.{places_in}
 use Rattle.truth_laws.proofs.Shapes.{main_fits}
 use Rattle.counter_laws.specs.LeadingRows.{leading_rows}
 use Rattle.counter_laws.proofs.Columns.{IsColumn, distinct_says}
 use Rattle.counter_laws.proofs.Leading.{leading_is}
 use Rattle.counter_laws.proofs.Levels.{lead_append}
-use Rattle.counter_laws.proofs.Loosely.{both_known, truth_is}
+use Rattle.counter_laws.proofs.Loosely.{all_three, both_known, truth_is}
 use Rattle.counter_laws.proofs.Single.{items_fit}
 use Rattle.counter_laws.proofs.Standing.{StandsForAll, term_here}
 use Rattle.counter_laws.proofs.Twice.{OneMeaning, MoreFollow, differ_is}
@@ -58,9 +53,6 @@ number_same n = truth_is _ ∙ int_eq_equiv.refl n
 
 text_same : (text : List ℕ) → are_not_distinct (value.Text text) (value.Text text) ≡ true
 text_same text = truth_is _ ∙ nat_list_eq_equiv.refl text
-
-all_three : (a b c d : Bool) → a ≡ true → b ≡ true → c ≡ d → (a && b && c) ≡ d
-all_three a b c d first second is = ap₂ (λ a b. a && b && c) first second ∙ is
 
 module _ (schema : List Table) (db : Database) (domains : is_of_domains schema db ≡ true) (alike : OneMeaning schema db) (follow : MoreFollow db)
     (query : Query) (fits : query_fits schema query ≡ true) (places : List ℕ) (are : are_rows db (tables_of (main_entries query) ++ tables_of (main_entries query)) places ≡ true) where

@@ -1,9 +1,9 @@
 -- One entry among the others: what stands at the other places, and what follows of decided truths.
-use Rattle.std.proofs.Common.{◌≡◌, ◌∙◌, ◌<◌, ◌≤◌, refl, sym, ap, ap₂, ℕ, zero, suc, Bool, true, false, ◌&&◌, ◌||◌, not, List, [], ◌∷◌, ◌++◌, length, map, nat_eq, if◌then◌else◌, arith}
+use Rattle.std.proofs.Common.{◌≡◌, ◌∙◌, ◌<◌, ◌≤◌, refl, sym, ap, ap₂, ℕ, zero, suc, Bool, true, false, ◌&&◌, not, List, [], ◌∷◌, length, map, nat_eq, if◌then◌else◌, arith}
 use Rattle.std.proofs.lemmas.List.Folds.{list_all-map}
 use Rattle.std.specs.List.{list_all, list_any, filter}
 use Rattle.std.specs.Prelude.{Ok, Some, slice_get, unwrap_or, insert, remove}
-use Rattle.lint_base.proofs.Lists.{any_map, and_true, not_or}
+use Rattle.lint_base.proofs.Lists.{and_true, not_or}
 use Rattle.lint_core.specs.declared.database.Truth.{Truth}
 use Rattle.lint_core.specs.Evaluation.{Evaluated, and_then, map_ok, all_ok}
 use Rattle.lint_core.specs.Points.{are_same_rows}

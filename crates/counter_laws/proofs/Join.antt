@@ -1,28 +1,25 @@
 -- A needless join: at the rows of the others, where no row of the entry fits, and where two do.
-use Rattle.std.proofs.Common.{◌≡◌, ◌∙◌, ◌<◌, ◌≤◌, ◌+◌, ◌-◌, refl, sym, ap, ap₂, subst, ℕ, zero, suc, Bool, true, false, ◌&&◌, ◌||◌, not, List, [], ◌∷◌, ◌++◌, length, map, nat_eq, nat_lt, take, if◌then◌else◌, arith}
+use Rattle.std.proofs.Common.{◌≡◌, ◌∙◌, ◌<◌, ◌+◌, ◌-◌, refl, sym, ap, ap₂, subst, ℕ, Bool, true, false, ◌&&◌, not, List, [], ◌∷◌, ◌++◌, length, map, nat_eq, if◌then◌else◌, arith}
 use Rattle.std.proofs.lemmas.Bool.Decides.{nat_tests}
-use Rattle.std.proofs.lemmas.List.{append-nil, append_assoc, length-append, take_all}
+use Rattle.std.proofs.lemmas.List.{append-nil}
 use Rattle.std.proofs.lemmas.List.Edits.{length-insert, length-remove}
-use Rattle.std.proofs.lemmas.List.Folds.{list_all-append, list_all-map}
-use Rattle.std.specs.List.{list_all, list_any, filter}
-use Rattle.std.specs.Prelude.{Ok, Some, None, slice_get, option_and_then, unwrap_or, is_some, insert, remove}
-use Rattle.lint_base.proofs.Lists.{all_alike, and_true, or_false, slice_get_last, both_left, both_right}
+use Rattle.std.proofs.lemmas.List.Folds.{list_all-map}
+use Rattle.std.specs.List.{list_all, filter}
+use Rattle.std.specs.Prelude.{Some, slice_get, option_and_then, unwrap_or, insert, remove}
+use Rattle.lint_base.proofs.Lists.{both_left, both_right}
 use Rattle.lint_core.specs.declared.condition.Cond.{Cond}
-use Rattle.lint_core.specs.declared.condition.Entry.{Entry}
-use Rattle.lint_core.specs.declared.database.Binding.{Binding}
 use Rattle.lint_core.specs.declared.database.Database.{Database}
 use Rattle.lint_core.specs.declared.query.Query.{Query}
 use Rattle.lint_core.specs.declared.schema.Table.{Table}
 use Rattle.lint_core.specs.declared.scope.Scope.{Scope}
 use Rattle.lint_core.specs.Asked.{main_condition, main_entries, conjuncts_with, conjuncts_without}
 use Rattle.lint_core.specs.Conjuncts.{conjuncts}
-use Rattle.lint_core.specs.Database.{Place, below, rows_of, places_of}
-use Rattle.lint_core.specs.Fits.{at_entry, cond_fits, query_fits, main_tables, tables_of}
+use Rattle.lint_core.specs.Database.{Place}
+use Rattle.lint_core.specs.Fits.{cond_fits, query_fits, main_tables, tables_of}
 use Rattle.lint_core.specs.Meets.{is_of_domains}
 use Rattle.lint_core.specs.Naming.{names}
 use Rattle.lint_core.specs.Points.{are_rows}
 use Rattle.sort_formula.specs.declared.formula.Formula.{Formula}
-use Rattle.sort_formula.specs.declared.formula.Formula.TheVariants as f
 use Rattle.sort_formula.specs.Counters.{fits_at, join_scope}
 use Rattle.sort_formula.specs.Holds.{holds}
 use Rattle.sort_formula.specs.Loose.{rows_at}
@@ -41,7 +38,7 @@ use Rattle.truth_laws.proofs.FittingParts.{conjuncts_fit}
 use Rattle.truth_laws.proofs.Inside.{is_there, place_for, place_there, more_rows, own_row, length_places}
 use Rattle.truth_laws.proofs.Numbered.{numbered_stands}
 use Rattle.truth_laws.proofs.Outside.{length_from}
-use Rattle.truth_laws.proofs.Quantified.{place_in, places_in}
+use Rattle.truth_laws.proofs.Quantified.{place_in}
 use Rattle.truth_laws.proofs.Shapes.{filter_keeps, main_fits}
 use Rattle.truth_laws.proofs.Tests.{all_both, all_where}
 use Rattle.counter_laws.specs.LeadingRows.{leading_rows}

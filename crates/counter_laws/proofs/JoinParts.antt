@@ -1,12 +1,11 @@
 -- The two parts of the counter sentence of a needless join, and the points that refute it loosely.
-use Rattle.std.proofs.Common.{◌≡◌, ◌∙◌, ◌<◌, ◌≤◌, ◌+◌, ◌-◌, ◌⊎◌, inl, inr, refl, sym, ap, ap₂, subst, ℕ, zero, suc, Bool, true, false, ◌&&◌, ◌||◌, not, List, [], ◌∷◌, ◌++◌, length, map, nat_eq, nat_lt, take, if◌then◌else◌, arith}
-use Rattle.std.proofs.lemmas.Bool.Decides.{nat_tests}
-use Rattle.std.proofs.lemmas.List.{append-nil, append_assoc, length-append, take_all}
+use Rattle.std.proofs.Common.{◌≡◌, ◌∙◌, ◌<◌, ◌≤◌, ◌+◌, ◌-◌, refl, sym, ap, ap₂, ℕ, Bool, true, false, ◌&&◌, ◌||◌, not, List, [], ◌∷◌, ◌++◌, length, map, nat_eq, nat_lt, take, arith}
+use Rattle.std.proofs.lemmas.List.{append_assoc, length-append, take_all}
 use Rattle.std.proofs.lemmas.List.Edits.{length-remove}
 use Rattle.std.proofs.lemmas.List.Folds.{list_all-append, list_all-map}
 use Rattle.std.specs.List.{list_all, list_any}
 use Rattle.std.specs.Prelude.{Ok, Option, Some, None, slice_get, unwrap_or, insert, remove}
-use Rattle.lint_base.proofs.Lists.{all_alike, any_map, and_true, or_false, get_behind, slice_get_last, both_left, both_right}
+use Rattle.lint_base.proofs.Lists.{all_alike, any_map, get_behind, slice_get_last, both_left, both_right}
 use Rattle.lint_core.specs.declared.condition.Cond.{Cond}
 use Rattle.lint_core.specs.declared.database.Binding.{Binding}
 use Rattle.lint_core.specs.declared.database.Database.{Database}
@@ -16,20 +15,19 @@ use Rattle.lint_core.specs.declared.query.Question.TheVariants.{NeedlessJoin}
 use Rattle.lint_core.specs.declared.schema.Table.{Table}
 use Rattle.lint_core.specs.Asked.{main_condition, main_entries, conjuncts_with, conjuncts_without}
 use Rattle.lint_core.specs.Conjuncts.{conjuncts}
-use Rattle.lint_core.specs.Database.{Place, below, rows_of, places_of}
-use Rattle.lint_core.specs.Evaluation.{Evaluated, map_ok, all_ok, all_hold}
+use Rattle.lint_core.specs.Database.{Place, below, rows_of}
+use Rattle.lint_core.specs.Evaluation.{map_ok, all_ok, all_hold}
 use Rattle.lint_core.specs.Fits.{query_fits, main_tables, tables_of}
 use Rattle.lint_core.specs.Forms.{is_main_binding, is_binding_without}
 use Rattle.lint_core.specs.Meets.{is_of_domains}
 use Rattle.lint_core.specs.Naming.{names}
-use Rattle.lint_core.specs.Points.{are_rows, are_same_rows, is_binding, differ_in_entry, main_rows}
+use Rattle.lint_core.specs.Points.{are_rows, are_same_rows, differ_in_entry}
 use Rattle.lint_core.specs.Question.{are_true_by, no_row_by, is_known_true, all_true, table_of}
-use Rattle.lint_core.specs.Truth.{truth_of}
 use Rattle.sort_formula.specs.declared.formula.Atom.TheVariants as atom
 use Rattle.sort_formula.specs.declared.formula.Formula.{Formula}
 use Rattle.sort_formula.specs.declared.formula.Formula.TheVariants as f
 use Rattle.sort_formula.specs.CounterPoints.{are_there, joined_binding, others_binding, points_of}
-use Rattle.sort_formula.specs.Counters.{counter, fits_at, join_scope, none_or_two}
+use Rattle.sort_formula.specs.Counters.{counter, fits_at, none_or_two}
 use Rattle.sort_formula.specs.Holds.{holds, is_same_place}
 use Rattle.sort_formula.specs.Loose.{by_formula, rows_at, refutes_loosely}
 use Rattle.sort_formula.specs.Negated.{negated}
@@ -45,22 +43,19 @@ use Rattle.counter_laws.proofs.Entries.{same_inserted, all_divided, none_of, all
 use Rattle.counter_laws.proofs.Exists.{some_place, one_place}
 use Rattle.counter_laws.proofs.Join.{at_row, rows_long, without_same, outside_hold, fits_row, without_says, fits_says, misfits_says}
 use Rattle.counter_laws.proofs.Loosely.{known_in, pair_known}
-use Rattle.counter_laws.proofs.Twice.{OneMeaning}
+use Rattle.counter_laws.proofs.Twice.{OneMeaning, same_itself}
 
 -- the formula of a condition holds where those of its conjuncts do
 abbrev pub Divides : List Table → Database → Type 0
 Divides schema db = (cond : Cond) (tables : List (List ℕ)) (rows : List Place) →
     holds db (is_true_formula schema cond (scope_of tables)) rows ≡ list_all (λ c. holds db (is_true_formula schema c (scope_of tables)) rows) (conjuncts cond)
 
-same_itself : (n : ℕ) → nat_eq n n ≡ true
-same_itself n = grind (arith, nat_tests)
-
 rearranged : (w x y d : Bool) → ((w && x) && ((w && y) && (d && true))) ≡ (w && (x && (y && (d && true))))
 rearranged true x y d = refl
 rearranged false x y d = refl
 
-all_three : (a b c d e f : Bool) → a ≡ true → b ≡ true → c ≡ true → d ≡ e → (a && b && (c && d)) ≡ e
-all_three a b c d e f first second third is = ap₂ (λ a b. a && b && (c && d)) first second ∙ (ap (λ c. c && d) third ∙ is)
+all_four : (a b c d e : Bool) → a ≡ true → b ≡ true → c ≡ true → d ≡ e → (a && b && (c && d)) ≡ e
+all_four a b c d e first second third is = ap₂ (λ a b. a && b && (c && d)) first second ∙ (ap (λ c. c && d) third ∙ is)
 
 module _ (schema : List Table) (db : Database) (domains : is_of_domains schema db ≡ true) (alike : OneMeaning schema db) (divides : Divides schema db)
     (query : Query) (fits : query_fits schema query ≡ true) (entry : ℕ) (low : entry < length (tables_of (main_entries query)))
@@ -226,8 +221,8 @@ module _ (schema : List Table) (db : Database) (domains : is_of_domains schema d
 
     form_is : form ≡ not (nat_eq x y)
     form_is =
-        all_three (is_main_binding db query one) (is_main_binding db query two)
-        (are_same_rows (remove (insert places entry x) entry) (remove (insert places entry y) entry)) (not (are_same_rows (insert places entry x) (insert places entry y))) (not (nat_eq x y)) true
+        all_four (is_main_binding db query one) (is_main_binding db query two)
+        (are_same_rows (remove (insert places entry x) entry) (remove (insert places entry y) entry)) (not (are_same_rows (insert places entry x) (insert places entry y))) (not (nat_eq x y))
         (one_level_is db own (insert places entry x) (with_one db own entry places x low are first))
         (one_level_is db own (insert places entry y) (with_one db own entry places y low are second))
         (ap₂ are_same_rows (removed places entry x reaches) (removed places entry y reaches) ∙ same_as_itself places)

@@ -1,8 +1,6 @@
 -- Levels, the last of them alone: how places fall into them, and when two bindings differ in the last one.
-use Rattle.std.proofs.Common.{◌≡◌, ◌∙◌, ◌⊎◌, ◌≤◌, ◌+◌, refl, sym, ap, ap₂, ℕ, zero, suc, Bool, true, false, ◌&&◌, not, List, [], ◌∷◌, ◌++◌, length, map, take, drop, nat_eq, arith, inl, inr, take-add}
-use Rattle.std.proofs.lemmas.Bool.Decides.{nat_tests}
+use Rattle.std.proofs.Common.{◌≡◌, ◌∙◌, ◌⊎◌, ◌≤◌, ◌+◌, refl, sym, ap, ap₂, ℕ, true, ◌&&◌, not, List, [], ◌∷◌, ◌++◌, length, map, take, drop, arith, inl, inr, take-add}
 use Rattle.std.proofs.lemmas.List.{append-nil, append_assoc, length-append, length-drop, length-take-le, drop-drop}
-use Rattle.std.specs.List.{zip}
 use Rattle.lint_base.proofs.Lists.{both_left, both_right}
 use Rattle.lint_core.specs.declared.database.Database.{Database}
 use Rattle.lint_core.specs.Points.{are_rows, is_binding, are_same_rows, differ_in_last_level}
@@ -11,9 +9,8 @@ use Rattle.sort_formula.specs.Counters.{outer_levels, last_level}
 use Rattle.sort_formula.specs.Sides.{all_of, from_number, numbered_from}
 use Rattle.formula_laws.proofs.LeadRows.{same_as_itself}
 use Rattle.truth_laws.proofs.Fitting.{both_are}
-use Rattle.truth_laws.proofs.Quantified.{place_in, places_in}
+use Rattle.truth_laws.proofs.Quantified.{place_in}
 use Rattle.counter_laws.specs.LeadingRows.{leading_rows}
-use Rattle.counter_laws.proofs.Leading.{leading_is}
 
 -- levels are those outside and the last one
 pub apart : (levels : List (List ℕ)) → (levels ≡ []) ⊎ (levels ≡ outer_levels levels ++ last_level levels ∷ [])

@@ -1,5 +1,5 @@
 -- What the loose interpretation gives: it is decided everywhere, so its clauses compute to tests.
-use Rattle.std.proofs.Common.{◌≡◌, ◌∙◌, refl, sym, ap, ap₂, Bool, true, false, ◌&&◌, not, List, [], ◌∷◌}
+use Rattle.std.proofs.Common.{◌≡◌, ◌∙◌, refl, sym, ap, ap₂, Bool, true, false, ◌&&◌, [], ◌∷◌}
 use Rattle.std.specs.Prelude.{Ok, if◌then◌else◌}
 use Rattle.lint_core.specs.Evaluation.{Evaluated, map_ok}
 use Rattle.lint_core.specs.Question.{all_true, is_known_true}
@@ -50,3 +50,8 @@ pair_cases false a b = never_last a b
 
 pub pair_known : (form apart a b : Bool) → form ≡ apart → (a && (b && (apart && true))) ≡ is_known_true (if form then all_true (Ok (truth_of a) ∷ Ok (truth_of b) ∷ []) else Ok false)
 pair_known form apart a b is = ap (λ form. a && (b && (form && true))) (sym is) ∙ pair_cases form a b
+
+-- ---- tests that hold
+
+pub all_three : (a b c d : Bool) → a ≡ true → b ≡ true → c ≡ d → (a && b && c) ≡ d
+all_three a b c d first second is = ap₂ (λ a b. a && b && c) first second ∙ is

@@ -1,10 +1,9 @@
 -- A NOT IN subquery that selects NULL: the body of the counter sentence holds at the leading rows exactly where the
 -- points made of them refute the question loosely.
-use Rattle.std.proofs.Common.{◌≡◌, ◌∙◌, refl, sym, ap, ap₂, subst, ℕ, Bool, true, false, ◌&&◌, List, [], ◌∷◌, length, map, if◌then◌else◌}
+use Rattle.std.proofs.Common.{◌≡◌, ◌∙◌, sym, ap, subst, ℕ, Bool, true, false, ◌&&◌, List, [], ◌∷◌, if◌then◌else◌}
 use Rattle.std.specs.Option.{option_map_or}
 use Rattle.std.specs.Prelude.{Ok, Option, Some, None, slice_get}
-use Rattle.lint_base.proofs.Lists.{and_true, both_left, both_right}
-use Rattle.lint_core.specs.declared.condition.Cond.{Cond}
+use Rattle.lint_base.proofs.Lists.{and_true}
 use Rattle.lint_core.specs.declared.condition.Cond.TheVariants as c
 use Rattle.lint_core.specs.declared.database.Binding.{Binding}
 use Rattle.lint_core.specs.declared.database.Database.{Database}
@@ -16,18 +15,17 @@ use Rattle.lint_core.specs.declared.query.Question.TheVariants.{NullInNotIn}
 use Rattle.lint_core.specs.declared.schema.Table.{Table}
 use Rattle.lint_core.specs.declared.scope.Scope.{Scope}
 use Rattle.lint_core.specs.declared.database.Truth.TheVariants.{False}
-use Rattle.lint_core.specs.Asked.{not_ins_of, is_asked}
+use Rattle.lint_core.specs.Asked.{not_ins_of}
 use Rattle.lint_core.specs.Comparison.{is_null}
 use Rattle.lint_core.specs.Condition.{term_value}
 use Rattle.lint_core.specs.Database.{Place}
-use Rattle.lint_core.specs.Evaluation.{Evaluated, map_ok}
-use Rattle.lint_core.specs.Fits.{cond_fits, term_fits, is_plain}
+use Rattle.lint_core.specs.Evaluation.{map_ok}
+use Rattle.lint_core.specs.Fits.{term_fits}
 use Rattle.lint_core.specs.Forms.{is_inner_binding}
 use Rattle.lint_core.specs.Meets.{is_of_domains}
-use Rattle.lint_core.specs.Points.{are_rows, is_binding}
+use Rattle.lint_core.specs.Points.{are_rows}
 use Rattle.lint_core.specs.Question.{all_true, is_known_true}
 use Rattle.lint_core.specs.Subqueries.{Subquery}
-use Rattle.lint_core.specs.Truth.{is_true, truth_of}
 use Rattle.sort_formula.specs.CounterPoints.{binding_of, points_of}
 use Rattle.sort_formula.specs.Counters.{counter, no_counter, selects_null}
 use Rattle.sort_formula.specs.Holds.{holds}
@@ -40,7 +38,6 @@ use Rattle.formula_laws.proofs.LeadRows.{as_many, whole_binding}
 use Rattle.truth_laws.proofs.Leaves.{null_says}
 use Rattle.truth_laws.proofs.Numbered.{numbered_stands}
 use Rattle.truth_laws.proofs.Shapes.{binding_shape}
-use Rattle.question_truths.specs.SubqueryFits.{subquery_fits, tables_exist}
 use Rattle.counter_laws.specs.LeadingRows.{leading_rows}
 use Rattle.counter_laws.proofs.Leading.{level_rows}
 use Rattle.counter_laws.proofs.Loosely.{known_in, truth_is}
@@ -87,7 +84,7 @@ module _ (schema : List Table) (db : Database) (domains : is_of_domains schema d
         is_known_true
         (if option_map_or (is_inner_binding db query (binding_of s.tables places)) o false
         then map_ok (λ here. here && is_null (option_map_or (λ (t : Subquery). term_value db t.tables (binding_of s.tables places).levels t.item) o Null))
-            (all_true (option_map_or (λ (t : Subquery). by_formula schema db t.cond t.tables (binding_of s.tables places).levels) o (Ok False) ∷ []))
+        (all_true (option_map_or (λ (t : Subquery). by_formula schema db t.cond t.tables (binding_of s.tables places).levels) o (Ok False) ∷ []))
         else Ok false)
 
     pub null_in_says : are_rows db (counter schema query (NullInNotIn sub) given).lead places ≡ true →

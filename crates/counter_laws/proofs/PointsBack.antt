@@ -1,5 +1,5 @@
 -- Points that have the form of an asked question are those that some leading rows make.
-use Rattle.std.proofs.Common.{◌≡◌, ◌∙◌, ◌<◌, refl, sym, ap, ap₂, subst, ℕ, Bool, true, false, ◌&&◌, not, List, [], ◌∷◌, ◌++◌, length, map, nat_lt, take, drop, arith}
+use Rattle.std.proofs.Common.{◌≡◌, ◌∙◌, ◌<◌, refl, sym, ap, ap₂, subst, ℕ, true, ◌&&◌, not, List, [], ◌∷◌, ◌++◌, length, nat_lt, take, drop, arith}
 use Rattle.std.proofs.Math.Seq.{drop-append_seam}
 use Rattle.std.proofs.lemmas.List.{append-nil, length-map, take_all}
 use Rattle.std.specs.List.{list_any}
@@ -18,14 +18,14 @@ use Rattle.lint_core.specs.declared.query.Question.TheVariants.{OneRow, Empty, N
 use Rattle.lint_core.specs.declared.schema.Table.{Table}
 use Rattle.lint_core.specs.Asked.{main_entries, scalars_of, not_ins_of, conjuncts_without, is_asked, is_selected}
 use Rattle.lint_core.specs.Database.{rows_of}
-use Rattle.lint_core.specs.Fits.{main_tables, tables_of}
+use Rattle.lint_core.specs.Fits.{tables_of}
 use Rattle.lint_core.specs.Forms.{have_form, is_main_binding, is_inner_binding}
 use Rattle.lint_core.specs.Naming.{has_scalar}
 use Rattle.lint_core.specs.Points.{are_rows, is_binding, is_same_binding, main_rows, differ_in_last_level, differ_in_entry}
 use Rattle.lint_core.specs.Question.{table_of}
 use Rattle.lint_core.specs.Subqueries.{Subquery}
-use Rattle.sort_formula.specs.CounterPoints.{are_there, binding_of, in_levels, main_binding, points_of, second_binding}
-use Rattle.sort_formula.specs.Counters.{counter, last_level, no_counter, outer_levels, selects_null, two_rows}
+use Rattle.sort_formula.specs.CounterPoints.{are_there, binding_of, main_binding, points_of, second_binding}
+use Rattle.sort_formula.specs.Counters.{counter, last_level, no_counter, selects_null, two_rows}
 use Rattle.sort_formula.specs.Sides.{all_of}
 use Rattle.formula_laws.proofs.InLevels.{levelled}
 use Rattle.formula_laws.proofs.LeadRows.{as_many}
@@ -89,8 +89,8 @@ module _ (schema : List Table) (db : Database) (query : Query) (given : Value) w
         rows_join db (all_of tables) (last_level tables) (all_of one.levels) behind here last,
         ap with_levels (levels_before tables one.levels behind shape),
         ap with_levels
-        (ap₂ (λ (outer : List (List ℕ)) (level : List ℕ). outer ++ level ∷ []) (outer_before tables one.levels behind shape) own_last
-        ∙ sym (last_alone one.levels two.levels (both_right (first && second) differ form))),
+            (ap₂ (λ (outer : List (List ℕ)) (level : List ℕ). outer ++ level ∷ []) (outer_before tables one.levels behind shape) own_last
+            ∙ sym (last_alone one.levels two.levels (both_right (first && second) differ form))),
       )
 
   scalar_back : (sub : ℕ) (one two : Binding) → have_form db query (OneRow sub) (Two one two) ≡ true → Leading (OneRow sub) (Two one two)
@@ -134,7 +134,7 @@ module _ (schema : List Table) (db : Database) (query : Query) (given : Value) w
         rows_join db own own (all_of one.levels) (all_of two.levels) here.0 there.0,
         refl,
         ap₂ Two (ap with_levels (levels_before (own ∷ []) one.levels (all_of two.levels) (binding_shape db (own ∷ []) one.levels (both_left first second both))))
-        (ap (main_binding query) behind ∙ there.1),
+            (ap (main_binding query) behind ∙ there.1),
       )
 
   main_back : (one : Binding) → is_main_binding db query one ≡ true → (are_rows db own (all_of one.levels) ≡ true) × (One (main_binding query (all_of one.levels)) ≡ One one)
@@ -161,8 +161,8 @@ module _ (schema : List Table) (db : Database) (query : Query) (given : Value) w
         others_are db own rows entry here.1,
         both_are (nat_lt row (length (rows_of db (table_of db query entry)))) (nat_lt other (length (rows_of db (table_of db query entry)))) low_row low_other,
         ap₂ (λ levels more. Two (with_levels levels) (with_levels more))
-        (ap (λ (ps : List ℕ). ps ∷ []) (put_back rows entry (omega (arith, low, as_many db own rows here.1))) ∙ sym here.0)
-        (ap (λ (ps : List ℕ). insert ps entry other ∷ []) same ∙ (ap (λ (ps : List ℕ). ps ∷ []) (put_back others entry (omega (arith, low, as_many db own others there.1))) ∙ sym there.0)),
+            (ap (λ (ps : List ℕ). ps ∷ []) (put_back rows entry (omega (arith, low, as_many db own rows here.1))) ∙ sym here.0)
+            (ap (λ (ps : List ℕ). insert ps entry other ∷ []) same ∙ (ap (λ (ps : List ℕ). ps ∷ []) (put_back others entry (omega (arith, low, as_many db own others there.1))) ∙ sym there.0)),
       )
 
   pub back : (question : Question) → is_asked schema query question ≡ true → (points : Points) → have_form db query question points ≡ true →

@@ -1,6 +1,6 @@
 -- Row by row: the body of the counter sentence holds at the leading rows exactly where the points made of them refute
 -- the question loosely. Of all questions but the needless join.
-use Rattle.std.proofs.Common.{◌≡◌, refl, ℕ, zero, suc, Bool, true, false, ◌&&◌, List, [], ◌∷◌, length, nat_lt, arith}
+use Rattle.std.proofs.Common.{◌≡◌, refl, ℕ, zero, suc, true, false, ◌&&◌, List, [], ◌∷◌, length, nat_lt, arith}
 use Rattle.std.proofs.lemmas.Bool.Decides.{nat_tests}
 use Rattle.std.specs.Prelude.{Some, None, slice_get}
 use Rattle.lint_base.proofs.Lists.{below_true, both_left, both_right}

@@ -1,11 +1,9 @@
 -- A scalar subquery that gives two rows: the body of the counter sentence holds at the leading rows exactly where the
 -- points made of them refute the question loosely.
-use Rattle.std.proofs.Common.{◌≡◌, ◌∙◌, ◌≤◌, ◌+◌, refl, sym, ap, ap₂, subst, ℕ, Bool, true, false, ◌&&◌, not, List, [], ◌∷◌, ◌++◌, length, map, take, drop, if◌then◌else◌, inl, inr, take-add, arith}
+use Rattle.std.proofs.Common.{◌≡◌, ◌∙◌, ◌+◌, refl, sym, ap, ap₂, ℕ, Bool, true, false, ◌&&◌, List, [], ◌∷◌, ◌++◌, length, map, take, drop, if◌then◌else◌, inl, inr, take-add, arith}
 use Rattle.std.proofs.lemmas.List.{append_assoc, length-append, length-drop, length-take-le, take-append-drop, take_all}
 use Rattle.std.specs.Option.{option_map_or}
 use Rattle.std.specs.Prelude.{Ok, Option, Some, None, slice_get}
-use Rattle.lint_base.proofs.Lists.{and_true}
-use Rattle.lint_core.specs.declared.condition.Cond.{Cond}
 use Rattle.lint_core.specs.declared.database.Binding.{Binding}
 use Rattle.lint_core.specs.declared.database.Database.{Database}
 use Rattle.lint_core.specs.declared.database.Points.TheVariants.{One, Two}
@@ -24,9 +22,7 @@ use Rattle.lint_core.specs.Forms.{is_inner_binding}
 use Rattle.lint_core.specs.Points.{are_rows, is_binding, differ_in_last_level}
 use Rattle.lint_core.specs.Question.{all_true, is_known_true}
 use Rattle.lint_core.specs.Subqueries.{Subquery}
-use Rattle.lint_core.specs.Truth.{truth_of}
 use Rattle.sort_formula.specs.declared.formula.Formula.{Formula}
-use Rattle.sort_formula.specs.declared.formula.Formula.TheVariants as f
 use Rattle.sort_formula.specs.CounterPoints.{binding_of, differ_somewhere, in_levels, points_of, second_binding}
 use Rattle.sort_formula.specs.Counters.{counter, no_counter, two_rows, outer_levels, last_level, some_other}
 use Rattle.sort_formula.specs.Counters as counters
@@ -36,12 +32,11 @@ use Rattle.sort_formula.specs.Sides.{all_of, from_number, numbered_from, scope_o
 use Rattle.sort_formula.specs.Translation.{is_true_formula}
 use Rattle.sort_formula.proofs.Holding.{holds_and, holds_or}
 use Rattle.formula_laws.proofs.LeadRows.{as_many, binding_falls, last_is, rows_fall}
-use Rattle.truth_laws.proofs.Fitting.{both_are}
 use Rattle.truth_laws.proofs.Quantified.{places_in}
 use Rattle.counter_laws.specs.LeadingRows.{leading_rows}
 use Rattle.counter_laws.proofs.Leading.{leading_is}
 use Rattle.counter_laws.proofs.Levels.{apart, all_append, numbered_append, levels_append, taken, lead_append, differ_last, levels_long, binding_inside}
-use Rattle.counter_laws.proofs.Loosely.{never_last, pair_known, unknown_in}
+use Rattle.counter_laws.proofs.Loosely.{all_three, never_last, pair_known, unknown_in}
 use Rattle.counter_laws.proofs.Twice.{OneMeaning, MoreFollow, differ_is}
 use Rattle.counter_laws.proofs.Twice as twice
 
@@ -51,9 +46,6 @@ no_form a b c is = ap (λ c. a && b && c) is ∙ never (a && b)
     never : (a : Bool) → (a && false) ≡ false
     never true = refl
     never false = refl
-
-all_three : (a b c d : Bool) → a ≡ true → b ≡ true → c ≡ d → (a && b && c) ≡ d
-all_three a b c d first second is = ap₂ (λ a b. a && b && c) first second ∙ is
 
 module _ (schema : List Table) (db : Database) (s : Subquery) (places : List ℕ) (are : are_rows db (all_of s.tables ++ last_level s.tables) places ≡ true) where
   abbrev outer : List (List ℕ)
@@ -236,11 +228,11 @@ module _ (schema : List Table) (db : Database) (alike : OneMeaning schema db) (f
   at_points o =
       is_known_true
       (if option_map_or (λ t. is_inner_binding db query (binding_of s.tables places) t && is_inner_binding db query (second_binding s.tables places) t
-          && differ_in_last_level (binding_of s.tables places).levels (second_binding s.tables places).levels) o false
+      && differ_in_last_level (binding_of s.tables places).levels (second_binding s.tables places).levels) o false
       then all_true (
-          option_map_or (λ (t : Subquery). by_formula schema db t.cond t.tables (binding_of s.tables places).levels) o (Ok False)
-          ∷ option_map_or (λ (t : Subquery). by_formula schema db t.cond t.tables (second_binding s.tables places).levels) o (Ok False) ∷ []
-          )
+      option_map_or (λ (t : Subquery). by_formula schema db t.cond t.tables (binding_of s.tables places).levels) o (Ok False)
+      ∷ option_map_or (λ (t : Subquery). by_formula schema db t.cond t.tables (second_binding s.tables places).levels) o (Ok False) ∷ []
+      )
       else Ok false)
 
   pub one_row_says : are_rows db (counter schema query (OneRow sub) given).lead places ≡ true →

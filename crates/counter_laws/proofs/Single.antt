@@ -1,8 +1,8 @@
 -- The questions of one binding of the main entries: the body of the counter sentence holds at the leading rows exactly
 -- where the points made of them refute the question loosely.
-use Rattle.std.proofs.Common.{◌≡◌, ◌∙◌, refl, sym, ap, ap₂, subst, ℕ, ℤ, pos, neg_ℤ, ◌-ℤ◌, Bool, true, false, ◌&&◌, ◌||◌, not, List, [], ◌∷◌, length, map, nat_eq, nat_lt, nat_le, take, if◌then◌else◌, arith}
+use Rattle.std.proofs.Common.{◌≡◌, ◌∙◌, refl, sym, ap, ap₂, subst, ℕ, ℤ, pos, neg_ℤ, ◌-ℤ◌, Bool, true, false, ◌&&◌, ◌||◌, not, List, [], ◌∷◌, length, nat_eq, nat_lt, nat_le, take, if◌then◌else◌, arith}
 use Rattle.std.proofs.lemmas.List.{take_all}
-use Rattle.std.specs.List.{list_all, list_any}
+use Rattle.std.specs.List.{list_all}
 use Rattle.std.specs.Option.{option_map_or}
 use Rattle.std.specs.Prelude.{Ok, Option, Some, None, slice_get, unwrap_or}
 use Rattle.lint_base.proofs.Lists.{all_at, and_true, or_false, both_left, both_right}
@@ -13,8 +13,6 @@ use Rattle.lint_core.specs.declared.condition.Term.{Term}
 use Rattle.lint_core.specs.declared.condition.Term.TheVariants as term
 use Rattle.lint_core.specs.declared.database.Binding.{Binding}
 use Rattle.lint_core.specs.declared.database.Database.{Database}
-use Rattle.lint_core.specs.declared.database.Points.{Points}
-use Rattle.lint_core.specs.declared.database.Points.TheVariants.{One}
 use Rattle.lint_core.specs.declared.database.Value.{Value}
 use Rattle.lint_core.specs.declared.database.Value.TheVariants.{Null, Int, Text}
 use Rattle.lint_core.specs.declared.query.Item.{Item}
@@ -26,8 +24,8 @@ use Rattle.lint_core.specs.Asked.{main_condition, main_entries, is_asked, is_wri
 use Rattle.lint_core.specs.Comparison.{is_null, are_not_distinct}
 use Rattle.lint_core.specs.Condition.{term_value}
 use Rattle.lint_core.specs.Database.{Place}
-use Rattle.lint_core.specs.Evaluation.{Evaluated, map_ok}
-use Rattle.lint_core.specs.Fits.{cond_fits, item_fits, order_fits, term_fits, is_plain, selection_fits_in, selection_fits, block_fits, count_conditions, query_fits, main_tables, tables_of, term_kind}
+use Rattle.lint_core.specs.Evaluation.{map_ok}
+use Rattle.lint_core.specs.Fits.{cond_fits, item_fits, order_fits, term_fits, is_plain, selection_fits_in, block_fits, count_conditions, query_fits, main_tables, tables_of, term_kind}
 use Rattle.lint_core.specs.Forms.{is_main_binding}
 use Rattle.lint_core.specs.Kind.{are_of_one_kind}
 use Rattle.lint_core.specs.Meets.{is_of_domains}
@@ -40,12 +38,11 @@ use Rattle.lint_core.specs.declared.condition.Block.{out-Block}
 use Rattle.sort_formula.specs.declared.formula.Atom.TheVariants as atom
 use Rattle.sort_formula.specs.declared.formula.Formula.{Formula}
 use Rattle.sort_formula.specs.declared.formula.Formula.TheVariants as f
-use Rattle.sort_formula.specs.declared.formula.Side.{Side}
 use Rattle.sort_formula.specs.declared.formula.Side.TheVariants as side
 use Rattle.sort_formula.specs.Cells.{le}
 use Rattle.sort_formula.specs.CounterPoints.{main_binding, points_of}
-use Rattle.sort_formula.specs.Counters.{counter, where_formula, item_term, differs_from, differs_from_number, differs_from_text, not_distinct, replaced_counter}
-use Rattle.sort_formula.specs.Holds.{holds, side_value, differ_by_at_most, are_texts, is_same_place}
+use Rattle.sort_formula.specs.Counters.{counter, where_formula, differs_from, differs_from_number, differs_from_text, not_distinct, replaced_counter}
+use Rattle.sort_formula.specs.Holds.{holds, side_value, is_same_place}
 use Rattle.sort_formula.specs.Loose.{by_formula, rows_at, refutes_loosely}
 use Rattle.sort_formula.specs.Negated.{negated}
 use Rattle.sort_formula.specs.Sides.{scope_of, side_of, is_text_term, is_null_formula, not_null_formula}

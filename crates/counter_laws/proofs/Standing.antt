@@ -1,5 +1,5 @@
 -- Where a scope stands for a binding: what follows for terms, for the tables of the variables and for negations.
-use Rattle.std.proofs.Common.{◌≡◌, ◌∙◌, refl, sym, ap, ℕ, zero, suc, pos, Bool, true, false, not, List, [], length, map}
+use Rattle.std.proofs.Common.{◌≡◌, ◌∙◌, refl, ap, ℕ, suc, pos, true, false, not, List, [], length, map}
 use Rattle.std.proofs.lemmas.List.{length-map}
 use Rattle.std.proofs.lemmas.Option.{slice_get-map}
 use Rattle.std.specs.Option.{option_map}

@@ -1,8 +1,8 @@
 -- Two bindings in the same rows outside, whose own levels are quantified one behind the other: where the formulas of a
 -- condition hold at the rows of both, and where the two have other rows.
-use Rattle.std.proofs.Common.{◌≡◌, ◌∙◌, ◌<◌, ◌≤◌, ◌+◌, refl, sym, ap, ap₂, subst, ℕ, zero, suc, Bool, true, false, ◌&&◌, ◌||◌, not, List, [], ◌∷◌, ◌++◌, length, map, nat_eq, arith}
+use Rattle.std.proofs.Common.{◌≡◌, ◌∙◌, ◌<◌, ◌+◌, refl, sym, ap, ap₂, subst, ℕ, zero, suc, Bool, true, ◌&&◌, ◌||◌, not, List, [], ◌∷◌, ◌++◌, length, map, nat_eq, arith}
 use Rattle.std.proofs.lemmas.Bool.Decides.{nat_tests}
-use Rattle.std.proofs.lemmas.List.{append_assoc, length-append, map-append}
+use Rattle.std.proofs.lemmas.List.{length-append, map-append}
 use Rattle.std.proofs.lemmas.Option.{same_Some, slice_get_within}
 use Rattle.std.specs.List.{list_any, zip}
 use Rattle.std.specs.Prelude.{Some, slice_get}
@@ -48,7 +48,7 @@ MoreFollow db =
 
 -- ---- rows that differ
 
-same_itself : (n : ℕ) → nat_eq n n ≡ true
+pub same_itself : (n : ℕ) → nat_eq n n ≡ true
 same_itself n = grind (arith, nat_tests)
 
 pub differ_is : (rows others : List ℕ) → length rows ≡ length others → not (are_same_rows rows others) ≡ differ_somewhere rows others

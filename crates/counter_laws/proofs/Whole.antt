@@ -1,5 +1,5 @@
 -- The counter sentence holds exactly where some points refute the question loosely.
-use Rattle.std.proofs.Common.{◌≡◌, ◌∙◌, refl, sym, ap, ap₂, subst, ℕ, Bool, true, false, ◌&&◌, ◌||◌, List, [], ◌∷◌, length, nat_lt}
+use Rattle.std.proofs.Common.{◌≡◌, ◌∙◌, refl, sym, ap, ℕ, Bool, true, false, ◌||◌, List, []}
 use Rattle.std.specs.Prelude.{Option, Some, None, slice_get}
 use Rattle.lint_base.proofs.Lists.{or_true}
 use Rattle.lint_core.specs.declared.database.Database.{Database}
