@@ -6,7 +6,11 @@
 //! where the schema's axioms are among the sentences it meets the schema
 //! (`full_case_meets_schema`). The layer above may cite them. No call makes such a database yet.
 //!
-//! There are no definitions here. A reader must believe `Keys`, `Ground` and `Cases` in the specs
+//! `insert_text` writes a database as INSERT statements, and `push_inserts` adds them to a text;
+//! `push_name` and `push_value` add a name and a value as a query has them. A reader must believe
+//! `specs/InsertText` and `InsertOrder`; `worked_inserts` are small examples.
+//!
+//! For the laws there are no definitions here. A reader must believe `Keys`, `Ground` and `Cases` in the specs
 //! of `instantiate` (what a problem is, and which database a full case of one makes), and for
 //! `taken_clauses_hold` also `Hanging` there (what stands at a clause); `Choices` and `Cases` in
 //! `case_split`; `Assignments` in `ground_theory`; `Preorder`, `Graph` and `Terms` in
@@ -14,9 +18,15 @@
 //! schema also `Meets` in `lint_core` and `Axioms` in `sort_formula`.
 #![tactic(auto)]
 
+mod inserting;
 mod laws;
+mod ordering;
+mod worked;
 
+pub use inserting::{insert_text, is_plain_word, push_inserts, push_name, push_value};
 pub use laws::{
     databases_are_of_domains, full_case_meets_schema, full_case_satisfies_sentences,
     taken_clauses_hold,
 };
+pub use ordering::insert_order;
+pub use worked::worked_inserts;

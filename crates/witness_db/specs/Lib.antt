@@ -1,0 +1,3 @@
+pub mod InsertText
+pub mod InsertOrder
+pub mod Examples
