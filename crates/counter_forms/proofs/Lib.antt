@@ -1,0 +1,13 @@
+pub mod Numbers
+pub mod LastLevels
+pub mod Standing
+pub mod Formed
+pub mod Edited
+pub mod Elements
+pub mod Outside
+pub mod Columns
+pub mod Queries
+pub mod Single
+pub mod Pairs
+pub mod Joins
+pub mod Counted
