@@ -11,3 +11,7 @@ pub mod Single
 pub mod Pairs
 pub mod Joins
 pub mod Counted
+pub mod SmallLayers
+pub mod SmallParts
+pub mod Ranges
+pub mod Bounded
