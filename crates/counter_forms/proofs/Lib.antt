@@ -1,4 +1,4 @@
-pub mod Numbers
+pub mod Variables
 pub mod LastLevels
 pub mod Standing
 pub mod Formed

@@ -10,7 +10,7 @@ use Rattle.sort_formula.specs.Counters.{outer_levels, last_level}
 use Rattle.sort_formula.specs.Sides.{all_of, from_number, numbered_from}
 use Rattle.truth_laws.proofs.Outside.{AreOutside, one_inside, variable_at, variable_past}
 use Rattle.counter_forms.proofs.LastLevels.{split_last}
-use Rattle.counter_forms.proofs.Numbers.{numbered_lengths}
+use Rattle.counter_forms.proofs.Variables.{numbered_lengths}
 
 -- ---- variables from a number on, and as many tables there
 

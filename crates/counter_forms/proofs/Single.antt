@@ -39,7 +39,7 @@ use Rattle.question_truths.specs.SubqueryFits.{tables_exist}
 use Rattle.counter_forms.proofs.Columns.{both_texts, column_is_not_null, column_side, differs_plain, is_side, le_plain, not_distinct_plain, null_plain, term_stands}
 use Rattle.counter_forms.proofs.Elements.{two_there}
 use Rattle.counter_forms.proofs.Formed.{Formed, Plain, formed_and, formed_other, formed_rows, plain_and, plain_condition, plain_is_formed, plain_not, plain_or}
-use Rattle.counter_forms.proofs.Numbers.{numbered_lengths}
+use Rattle.counter_forms.proofs.Variables.{numbered_lengths}
 use Rattle.counter_forms.proofs.Outside.{numbered_outside}
 use Rattle.counter_forms.proofs.Queries.{item_there, own_there}
 

@@ -18,7 +18,7 @@ use Rattle.truth_laws.proofs.Outside.{length_from, lengths_inside}
 use Rattle.question_truths.specs.Room.{entries_in}
 use Rattle.question_truths.specs.SubqueryFits.{subquery_fits, tables_exist}
 use Rattle.counter_forms.proofs.LastLevels.{split_last, length_with_last}
-use Rattle.counter_forms.proofs.Numbers.{numbered_lengths, entries_are, all_below, from_below, numbered_below, insert_passes}
+use Rattle.counter_forms.proofs.Variables.{numbered_lengths, entries_are, all_below, from_below, numbered_below, insert_passes}
 
 module _ (schema : List Table) (cond : Cond) where
   -- at levels that are numbered from 0 on, under any further quantifiers
@@ -92,7 +92,7 @@ module _ (schema : List Table) (query : Query) (cond : Cond) (fits : cond_fits s
       level_stands schema cond (own schema query) (from_number n n) (n + n) fits (length_from n n) (from_below (n + n) n n (omega arith)) (omega (arith, long, counted, room))
 
   -- an entry has a variable behind those of the others
-  module _ (entry variable depth : ℕ) (there : entry < length (main_entries query)) (least : length (main_entries query) ≤ depth + 1) (most : depth ≤ length (main_entries query) + 1)
+  module _ (entry variable depth : ℕ) (there : entry < length (main_entries query)) (least : length (main_entries query) ≤ depth + 1) (most : depth < 2 ^ 31)
       (low : variable < depth) where
     pub join_stands : CanStand schema cond (join_scope schema query entry variable depth)
     join_stands =

@@ -1,7 +1,7 @@
 //! Where the conditions of the counter sentences stand, and that there is room for them. The
 //! functions call other laws and do nothing else: each contract is a law about the definitions in
 //! `specs/`.
-ghost use Rattle.std.specs.Prelude.{◌≡◌, ◌<◌, ◌≤◌, ◌+◌, ℕ, true, List, Some, slice_get, length};
+ghost use Rattle.std.specs.Prelude.{◌≡◌, ◌<◌, ◌≤◌, ◌+◌, ◌^◌, ℕ, true, List, Some, slice_get, length};
 ghost use Rattle.lint_core.specs.declared.condition.Cond.{Cond as Condition};
 ghost use Rattle.lint_core.specs.declared.condition.Cond.TheVariants.{True as AlwaysTrue, False as NeverTrue};
 ghost use Rattle.lint_core.specs.declared.query.Query.{Query};
@@ -56,8 +56,7 @@ pub fn asked_sentences_have_room()
         → query_fits schema query ≡ true
         → slice_get (conjuncts (main_condition query)) number ≡ Some part
         → entry < length (main_entries query)
-        → length (main_entries query) ≤ depth + 1 → depth ≤ length (main_entries query) + 1
-        → variable < depth
+        → length (main_entries query) ≤ depth + 1 → depth < 2 ^ 31 → variable < depth
         → CanStand schema part (join_scope schema query entry variable depth) }
     ensures first_row { (schema : List Table) (query : Query) (number : ℕ) (sub : Subquery)
         → query_fits schema query ≡ true → slice_get (scalars_of query) number ≡ Some sub
