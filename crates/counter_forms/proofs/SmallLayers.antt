@@ -1,5 +1,5 @@
 -- The numbers of a condition of each kind, by its parts.
-use Rattle.std.proofs.Common.{◌≡◌, ◌∙◌, ap, Bool, true, ◌&&◌, List}
+use Rattle.std.proofs.Common.{◌≡◌, ◌∙◌, ◌⊎◌, inl, inr, ap, Bool, true, ◌&&◌, List}
 use Rattle.std.proofs.lemmas.List.Folds.{list_all-map}
 use Rattle.std.specs.List.{list_all}
 use Rattle.lint_base.specs.declared.place.Span.{Span}
@@ -57,3 +57,7 @@ pub small_scalar : (op : Op) (left : Term) (block : Block) (item : Term) (span :
     has_small_numbers (c.Scalar op left block item span) ≡ (term_is_small left && term_is_small item && block_small block)
 small_scalar op left block item span =
     small_out (c.Scalar op left block item span) _ (c.outs-Scalar op left block item span) ∙ ap (λ b. term_is_small left && term_is_small item && b) (block_is block)
+
+pub small_parts : (cond : Cond) (parts : List Cond) → (cond ≡ c.And parts) ⊎ (cond ≡ c.Or parts) → has_small_numbers cond ≡ list_all has_small_numbers parts
+small_parts cond parts (inl is_and) = ap has_small_numbers is_and ∙ small_and parts
+small_parts cond parts (inr is_or) = ap has_small_numbers is_or ∙ small_or parts

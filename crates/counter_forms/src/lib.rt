@@ -6,9 +6,11 @@
 //! `sort_formula`, in `Scopes` of `truth_formula` and in `Asked` of `lint_core`.
 #![tactic(auto)]
 
+mod numbers;
 mod room;
 mod sentences;
 
+pub use numbers::{condition_has_small_numbers, value_is_small};
 pub use room::asked_sentences_have_room;
 pub use sentences::{
     asked_sentences_are_sentences, asked_sentences_fit, small_numbers_give_small_bounds,
