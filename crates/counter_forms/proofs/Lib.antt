@@ -1,0 +1,17 @@
+pub mod Variables
+pub mod LastLevels
+pub mod Standing
+pub mod Formed
+pub mod Edited
+pub mod Elements
+pub mod Outside
+pub mod Columns
+pub mod Queries
+pub mod Single
+pub mod Pairs
+pub mod Joins
+pub mod Counted
+pub mod SmallLayers
+pub mod SmallParts
+pub mod Ranges
+pub mod Bounded
