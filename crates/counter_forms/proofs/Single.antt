@@ -48,9 +48,6 @@ module _ (schema : List Table) (query : Query) (fits : query_fits schema query �
   abbrev here : List ℕ
   here = own schema query
 
-  abbrev standing : Type 0
-  standing = AreOutside (scope schema query) here (λ entry. true)
-
   pub main_outside : (named : ℕ → Bool) → AreOutside (scope schema query) here named
   main_outside named =
       let end : here ≡ all_of (main_tables query) ++ [] = sym (append-nil (here ++ []) ∙ append-nil here) in

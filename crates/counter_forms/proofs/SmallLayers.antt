@@ -42,9 +42,6 @@ small_not part = small_out (c.Not part) _ (c.outs-Not part)
 pub small_compare : (op : Op) (left right : Term) (span : Span) → has_small_numbers (c.Compare op left right span) ≡ (term_is_small left && term_is_small right)
 small_compare op left right span = small_out (c.Compare op left right span) _ (c.outs-Compare op left right span)
 
-pub small_is_null : (t : Term) (negated : Bool) (span : Span) → has_small_numbers (c.IsNull t negated span) ≡ true
-small_is_null t negated span = small_out (c.IsNull t negated span) _ (c.outs-IsNull t negated span)
-
 pub small_exists : (block : Block) (span : Span) → has_small_numbers (c.Exists block span) ≡ block_small block
 small_exists block span = small_out (c.Exists block span) _ (c.outs-Exists block span) ∙ block_is block
 
