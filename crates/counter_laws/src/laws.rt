@@ -193,8 +193,9 @@ pub fn sentence_decides_the_question()
 }
 
 /// In a database of the schema in which the scalar subqueries asked of before give at most one
-/// row, a question holds where its counter sentence does not. So where the sentence holds in no
-/// database of the schema, the question holds in each of those.
+/// row, a question holds where its counter sentence does not. So if the sentence holds in no
+/// database of the schema, the question holds in each of them in which those subqueries give at
+/// most one row.
 pub fn question_holds_where_the_sentence_fails()
     ensures here { (schema : List Table) (db : Database) → meets schema db ≡ true
         → (query : Query) → query_fits schema query ≡ true

@@ -8,9 +8,9 @@
 //!
 //! In a database of the domains in which the scalar subqueries asked of before give at most one
 //! row, these are the points that refute (`loosely_is_truly`), so there the question holds exactly
-//! where the sentence does not (`sentence_decides_the_question`); and where the sentence holds in
-//! no database of the schema, the question holds in each of those
-//! (`question_holds_where_the_sentence_fails`).
+//! where the sentence does not (`sentence_decides_the_question`); and if the sentence holds in no
+//! database of the schema, the question holds in each of them in which those subqueries give at
+//! most one row (`question_holds_where_the_sentence_fails`).
 //!
 //! The layer above may cite the laws. Of `specs/` a reader must believe `LeadingRows` (the rows
 //! of a lead) and `Joins` (the two parts of the sentence of a needless join).
