@@ -48,7 +48,7 @@ pub fn leading_rows_refute()
 
 /// Row by row, of a needless join: the one part of the body, that no row of the entry fits, holds
 /// exactly where the rows of the others alone refute; the other, that two rows fit, exactly where
-/// the others with some two rows of the entry do. The body holds where one of the two does.
+/// the others with some two rows of the entry do. The body holds exactly where one of them does.
 pub fn rows_of_a_join_refute()
     ensures no_row { (schema : List Table) (db : Database) → is_of_domains schema db ≡ true
         → (query : Query) → query_fits schema query ≡ true

@@ -11,7 +11,7 @@ use Rattle.lint_core.specs.Database.{below}
 abbrev pub is_written : List ℕ → ℕ → Bool
 is_written written table = list_any (nat_eq table) written
 
--- all tables that its foreign keys refer to
+-- all tables that its foreign keys refer to are written
 abbrev pub has_targets : List ℕ → Table → Bool
 has_targets written table = list_all (λ (key : ForeignKey). is_written written key.target) table.foreign
 

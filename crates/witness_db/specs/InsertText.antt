@@ -1,4 +1,4 @@
--- A database as INSERT statements, one on each line (ISO/IEC 9075:1992, 13.8): those of a table in the order of its rows.
+-- A database as INSERT statements, each with a line end (ISO/IEC 9075:1992, 13.8): those of a table in the order of its rows.
 use Rattle.std.specs.Prelude.{ℕ, List, [], ◌∷◌, ◌++◌, if◌then◌else◌, nat_eq, slice_get, codes, encode_utf8_all}
 use Rattle.std.specs.Fmt.{signed_decimal}
 use Rattle.std.specs.Option.{option_map_or}
@@ -48,12 +48,12 @@ target_text table = codes "INSERT INTO " ++ name_text table.name ++ codes " VALU
 unfoldable pub row_text : Table → Row → List ℕ
 row_text table row = target_text table ++ joined (codes ", ") value_text row.values ++ codes ");\n"
 
--- its line, behind an indent
+-- behind an indent, as in a report
 abbrev pub insert_line : List ℕ → Table → Row → List ℕ
 insert_line indent table row = indent ++ row_text table row
 
 module _ (indent : List ℕ) (schema : List Table) (db : Database) where
-  -- a line for each row of the table
+  -- the rows of the table
   abbrev pub table_lines : ℕ → List ℕ
   table_lines table = option_map_or (λ t. texts (insert_line indent t) (rows_of db table)) (slice_get schema table) []
 

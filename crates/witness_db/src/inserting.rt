@@ -223,7 +223,7 @@ fn push_tables(
     Ok(())
 }
 
-/// Adds the database as INSERT statements, one on each line behind the indent. The lines of a
+/// Adds the database as INSERT statements, each behind the indent and with a line end. Those of a
 /// table stand together, in the order of its rows, and behind those of the tables that it refers
 /// to, where foreign keys don't lead from a table back to itself; else the tables stand in schema
 /// order. `NoMemory` where there is no memory for it.
@@ -243,7 +243,7 @@ pub fn push_inserts(
     Ok(())
 }
 
-/// The database as INSERT statements, one on each line. `NoMemory` where there is no memory for
+/// The database as INSERT statements, each with a line end. `NoMemory` where there is no memory for
 /// it.
 pub fn insert_text(alloc: Global, schema: &Schema, database: &Database) -> Result<Vec<u8>, NoMemory>
     ensures { IfOk result (λ bytes. bytes.items ≡ insert_text schema.now database.now) }

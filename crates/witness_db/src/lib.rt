@@ -1,4 +1,5 @@
-//! What holds in the database that a full case of a problem makes.
+//! What holds in the database that a full case of a problem makes, and databases as INSERT
+//! statements.
 //!
 //! The laws: every sentence of the problem holds there (`full_case_satisfies_sentences`), and so
 //! does, at the places of its row terms, each formula whose clause is taken
@@ -7,13 +8,15 @@
 //! (`full_case_meets_schema`). The layer above may cite them. No call makes such a database yet.
 //!
 //! `insert_text` writes a database as INSERT statements, and `push_inserts` adds them to a text;
-//! `push_name` and `push_value` add a name and a value as a query has them. A reader must believe
-//! `specs/InsertText` and `InsertOrder`; `worked_inserts` are small examples.
+//! `push_name` and `push_value` add a name and a value as a query has them, `is_plain_word` tells
+//! which names stand bare, and `insert_order` in which order tables come. A reader must believe
+//! `specs/InsertText` and `InsertOrder`, and `PlainWord` in `lint_core` with `Words` in
+//! `lint_tables`; `worked_inserts` are small examples.
 //!
-//! For the laws there are no definitions here. A reader must believe `Keys`, `Ground` and `Cases` in the specs
-//! of `instantiate` (what a problem is, and which database a full case of one makes), and for
-//! `taken_clauses_hold` also `Hanging` there (what stands at a clause); `Choices` and `Cases` in
-//! `case_split`; `Assignments` in `ground_theory`; `Preorder`, `Graph` and `Terms` in
+//! For the laws there are no definitions here. A reader must believe `Keys`, `Ground` and `Cases`
+//! in the specs of `instantiate` (what a problem is, and which database a full case of one makes),
+//! and for `taken_clauses_hold` also `Hanging` there (what stands at a clause); `Choices` and
+//! `Cases` in `case_split`; `Assignments` in `ground_theory`; `Preorder`, `Graph` and `Terms` in
 //! `sorted_skolem`; `Holds`, `Placed` and `Sentences` in `sort_formula`. For the laws about the
 //! schema also `Meets` in `lint_core` and `Axioms` in `sort_formula`.
 #![tactic(auto)]
