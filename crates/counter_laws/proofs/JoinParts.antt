@@ -1,5 +1,6 @@
 -- The two parts of the counter sentence of a needless join, and the points that refute it loosely.
 use Rattle.std.proofs.Common.{◌≡◌, ◌∙◌, ◌<◌, ◌≤◌, ◌+◌, ◌-◌, refl, sym, ap, ap₂, ℕ, Bool, true, false, ◌&&◌, ◌||◌, not, List, [], ◌∷◌, ◌++◌, length, map, nat_eq, nat_lt, take, arith}
+use Rattle.std.proofs.lemmas.Bool.Decides.{nat_tests}
 use Rattle.std.proofs.lemmas.List.{append_assoc, length-append, take_all}
 use Rattle.std.proofs.lemmas.List.Edits.{length-remove}
 use Rattle.std.proofs.lemmas.List.Folds.{list_all-append, list_all-map}
@@ -36,7 +37,7 @@ use Rattle.sort_formula.specs.Translation.{is_true_formula}
 use Rattle.sort_formula.proofs.Holding.{holds_atom, holds_and, holds_or, holds_exists, holds_forall}
 use Rattle.formula_laws.proofs.LeadRows.{as_many, one_level, one_level_is, removed, same_as_itself, with_one}
 use Rattle.truth_laws.proofs.Quantified.{place_in}
-use Rattle.counter_laws.specs.Joins.{without_formulas, no_row_formula, two_rows_formula, no_row_body, two_rows_body}
+use Rattle.counter_laws.specs.Joins.{without_formulas, no_row_formula, both_fit, two_rows_formula, no_row_body, two_rows_body}
 use Rattle.counter_laws.specs.LeadingRows.{leading_rows}
 use Rattle.counter_laws.proofs.Back.{table_is}
 use Rattle.counter_laws.proofs.Entries.{same_inserted, all_divided, none_of, all_known, truths_known}
@@ -118,12 +119,7 @@ module _ (schema : List Table) (db : Database) (domains : is_of_domains schema d
   two_fit x y = fit x && (fit y && (not (nat_eq x y) && true))
 
   abbrev two_body : Formula
-  two_body =
-      f.And (
-      fits_at schema query entry (count - 1) (count + 1)
-      ∷ fits_at schema query entry count (count + 1)
-      ∷ f.Atom (atom.Other (count - 1) count) ∷ []
-      )
+  two_body = both_fit schema query entry
 
   module _ (x y : ℕ) where
     abbrev more : List Place
@@ -143,17 +139,19 @@ module _ (schema : List Table) (db : Database) (domains : is_of_domains schema d
         holds_atom db (atom.Other (count - 1) count) (rows ++ more)
         ∙ ap not (ap₂ is_same_place first_here second_here ∙ ap (λ b. b && nat_eq x y) (same_itself table))
 
-    two_says : holds db two_body ((rows ++ place_in table x ∷ []) ++ place_in table y ∷ []) ≡ two_fit x y
-    two_says =
+    these_say : holds db two_body (rows ++ more) ≡ two_fit x y
+    these_say =
         let one = fits_at schema query entry (count - 1) (count + 1) in
         let two = fits_at schema query entry count (count + 1) in
         let other = f.Atom (atom.Other (count - 1) count) in
-        ap (holds db two_body) (append_assoc rows (place_in table x ∷ []) (place_in table y ∷ []))
-        ∙ (holds_and db (one ∷ two ∷ other ∷ []) (rows ++ more)
+        holds_and db (one ∷ two ∷ other ∷ []) (rows ++ more)
         ∙ (ap₂ (λ a b. a && (b && (holds db other (rows ++ more) && true)))
         (fits_says schema db domains alike query fits entry low places are (count - 1) (count + 1) x more more_long first_here)
         (fits_says schema db domains alike query fits entry low places are count (count + 1) y more more_long second_here)
-        ∙ ap (λ c. fit x && (fit y && (c && true))) other_is))
+        ∙ ap (λ c. fit x && (fit y && (c && true))) other_is)
+
+    two_says : holds db two_body ((rows ++ place_in table x ∷ []) ++ place_in table y ∷ []) ≡ two_fit x y
+    two_says = ap (holds db two_body) (append_assoc rows (place_in table x ∷ []) (place_in table y ∷ [])) ∙ these_say
 
   some_two : holds db (two_rows_formula schema query entry) rows ≡ true → (x : ℕ) × (y : ℕ) × (nat_lt x many ≡ true) × (nat_lt y many ≡ true) × (two_fit x y ≡ true)
   some_two holding =
@@ -252,6 +250,20 @@ module _ (schema : List Table) (db : Database) (domains : is_of_domains schema d
         found.1,
         ap₂ (λ a b. a && b) (ap (nat_lt found.0) many_is ∙ found.2) (ap (nat_lt found.1) many_is ∙ found.3),
         sym (both_say found.0 found.1 found.2 found.3 given) ∙ ap₂ (λ a b. a && b) (both_left outside (holds db g rows && true) parts) found.4,
+      )
+
+  -- the others' rows and these two
+  abbrev with_two : ℕ → ℕ → List Place
+  with_two x y = rows ++ place_in table x ∷ place_in table y ∷ []
+
+  pub these_to : (given : Value) → list_all (λ g. holds db g rows) (without_formulas schema query entry) ≡ true → (x y : ℕ) → x < many → y < many →
+      holds db (both_fit schema query entry) (with_two x y) ≡ true → (there (Some (x, y)) ≡ true) × Refutes given (Some (x, y))
+  these_to given without_hold x y low_x low_y fitting =
+      let first : nat_lt x many ≡ true = grind (arith, nat_tests) in
+      let second : nat_lt y many ≡ true = grind (arith, nat_tests) in (
+        ap₂ (λ a b. a && b) (ap (nat_lt x) many_is ∙ first) (ap (nat_lt y) many_is ∙ second),
+        sym (both_say x y first second given)
+            ∙ ap₂ (λ a b. a && b) (sym (without_says schema db domains alike query fits entry low places are) ∙ without_hold) (sym (these_say x y) ∙ fitting),
       )
 
   pub two_to : (given : Value) (x y : ℕ) → there (Some (x, y)) ≡ true → Refutes given (Some (x, y)) → holds db (two_rows_body schema query entry) rows ≡ true

@@ -26,15 +26,18 @@ module _ (schema : List Table) (query : Query) (entry : ℕ) where
   abbrev pub no_row_formula : Formula
   no_row_formula = f.Forall (table_of_entry schema query entry) (negated (fits_at schema query entry (count schema query - 1) (count schema query)))
 
-  -- two rows of the entry fit
-  abbrev pub two_rows_formula : Formula
-  two_rows_formula =
-      f.Exists (table_of_entry schema query entry) (f.Exists (table_of_entry schema query entry) (
+  -- two rows of the entry, behind those of the others, both fit and differ
+  abbrev pub both_fit : Formula
+  both_fit =
       f.And (
       fits_at schema query entry (count schema query - 1) (count schema query + 1)
       ∷ fits_at schema query entry (count schema query) (count schema query + 1)
       ∷ f.Atom (atom.Other (count schema query - 1) (count schema query)) ∷ []
-      )))
+      )
+
+  -- two rows of the entry fit
+  abbrev pub two_rows_formula : Formula
+  two_rows_formula = f.Exists (table_of_entry schema query entry) (f.Exists (table_of_entry schema query entry) both_fit)
 
   abbrev pub no_row_body : Formula
   no_row_body = f.And (without_formulas ++ no_row_formula ∷ [])

@@ -1,6 +1,8 @@
 //! The functions call other laws and do nothing else: each contract is a law about the definitions
 //! in `specs/`.
-ghost use Rattle.std.specs.Prelude.{◌≡◌, ◌↔◌, ◌||◌, ℕ, true, false, List, [], Option, Some, None};
+ghost use Rattle.std.specs.Prelude.{◌≡◌, ◌↔◌, ◌<◌, ◌||◌, ℕ, true, false, Option, Some, None};
+ghost use Rattle.std.specs.Prelude.{List, [], ◌∷◌, ◌++◌, length};
+ghost use Rattle.std.specs.List.{list_all};
 ghost use Rattle.lint_core.specs.declared.database.Database.{Database};
 ghost use Rattle.lint_core.specs.declared.database.Points.{Points as SomePoints};
 ghost use Rattle.lint_core.specs.declared.database.Value.{Value};
@@ -9,15 +11,17 @@ ghost use Rattle.lint_core.specs.declared.query.Question.{Question};
 ghost use Rattle.lint_core.specs.declared.query.Question.TheVariants.{NeedlessJoin};
 ghost use Rattle.lint_core.specs.declared.schema.Table.{Table};
 ghost use Rattle.lint_core.specs.Asked.{is_asked};
+ghost use Rattle.lint_core.specs.Database.{rows_of};
 ghost use Rattle.lint_core.specs.Fits.{query_fits};
 ghost use Rattle.lint_core.specs.Meets.{is_of_domains, meets};
 ghost use Rattle.lint_core.specs.Points.{are_rows};
 ghost use Rattle.lint_core.specs.Question.{EarlierHold, HoldsIn, refutes};
 ghost use Rattle.sort_formula.specs.CounterPoints.{are_there, points_of};
-ghost use Rattle.sort_formula.specs.Counters.{counter, counter_sentence};
+ghost use Rattle.sort_formula.specs.Counters.{counter, counter_sentence, table_of_entry};
 ghost use Rattle.sort_formula.specs.Holds.{holds};
 ghost use Rattle.sort_formula.specs.Loose.{refutes_loosely};
 ghost use Rattle.counter_laws.specs.Joins.{is_join, no_row_body, two_rows_body};
+ghost use Rattle.counter_laws.specs.Joins.{both_fit, without_formulas};
 ghost use Rattle.counter_laws.specs.LeadingRows.{leading_rows};
 
 use question_laws::{
@@ -48,7 +52,9 @@ pub fn leading_rows_refute()
 
 /// Row by row, of a needless join: the one part of the body, that no row of the entry fits, holds
 /// exactly where the rows of the others alone refute; the other, that two rows fit, exactly where
-/// the others with some two rows of the entry do. The body holds exactly where one of them does.
+/// the others with some two rows of the entry do. Where the conjuncts without the entry hold, and
+/// these two rows of it fit, the others with these two refute. The body holds exactly where one of
+/// its parts does.
 pub fn rows_of_a_join_refute()
     ensures no_row { (schema : List Table) (db : Database) → is_of_domains schema db ≡ true
         → (query : Query) → query_fits schema query ≡ true
@@ -80,6 +86,23 @@ pub fn rows_of_a_join_refute()
         (points_of query (NeedlessJoin entry) places (Some (x, y))) ≡ true
         → holds db (two_rows_body schema query entry)
         (leading_rows (counter schema query (NeedlessJoin entry) given).lead places) ≡ true }
+    ensures these_two { (schema : List Table) (db : Database) → is_of_domains schema db ≡ true
+        → (query : Query) → query_fits schema query ≡ true
+        → (entry : ℕ) → is_asked schema query (NeedlessJoin entry) ≡ true
+        → (given : Value) (places : List ℕ)
+        → are_rows db (counter schema query (NeedlessJoin entry) given).lead places ≡ true
+        → list_all (λ g. holds db g
+        (leading_rows (counter schema query (NeedlessJoin entry) given).lead places))
+        (without_formulas schema query entry) ≡ true
+        → (x y : ℕ) → x < length (rows_of db (table_of_entry schema query entry))
+        → y < length (rows_of db (table_of_entry schema query entry))
+        → holds db (both_fit schema query entry)
+        (leading_rows (counter schema query (NeedlessJoin entry) given).lead places
+        ++ record { table = table_of_entry schema query entry; row = x }
+        ∷ record { table = table_of_entry schema query entry; row = y } ∷ []) ≡ true
+        → (are_there query db (NeedlessJoin entry) (Some (x, y)) ≡ true)
+        × (refutes_loosely schema db query (NeedlessJoin entry) given
+        (points_of query (NeedlessJoin entry) places (Some (x, y))) ≡ true) }
     ensures body { (schema : List Table) (db : Database) → is_of_domains schema db ≡ true
         → (query : Query) → query_fits schema query ≡ true
         → (entry : ℕ) → is_asked schema query (NeedlessJoin entry) ≡ true

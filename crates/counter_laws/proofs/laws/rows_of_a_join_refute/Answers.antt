@@ -1,5 +1,5 @@
 use Rattle.sort_formula.specs.Sides.{scope_of}
-use Rattle.counter_laws.proofs.JoinParts.{none_says, two_from, two_to, body_says}
+use Rattle.counter_laws.proofs.JoinParts.{none_says, two_from, two_to, these_to, body_says}
 use Rattle.counter_laws.proofs.PointsBack.{entry_low}
 use Rattle.counter_laws.proofs.laws.rows_of_a_join_refute.Goals as goal
 
@@ -29,6 +29,15 @@ returns-clause-from_two_rows c schema db domains query fits entry asked given pl
     (c.one_binding_gives_the_same_rows.ensures.same db cond one other binding rows others tables first second))
     (λ cond tables rows. c.conjuncts_say_the_condition.ensures.says_true schema db cond (scope_of tables) rows)
     query fits entry (entry_low schema query entry asked) places lead given x y there refuted
+
+pub returns-clause-these_two : goal.returns-clause-these_two
+returns-clause-these_two c schema db domains query fits entry asked given places lead without_hold x y first second fitting =
+    these_to schema db domains
+    (λ cond one other binding rows others tables fits first second.
+    c.formulas_depend_on_rows_alone.ensures.says_true schema db cond one other rows others fits
+    (c.one_binding_gives_the_same_rows.ensures.same db cond one other binding rows others tables first second))
+    (λ cond tables rows. c.conjuncts_say_the_condition.ensures.says_true schema db cond (scope_of tables) rows)
+    query fits entry (entry_low schema query entry asked) places lead given without_hold x y first second fitting
 
 pub returns-clause-body : goal.returns-clause-body
 returns-clause-body c schema db domains query fits entry asked given places lead =
