@@ -22,7 +22,7 @@ fn are_two_texts(end: &End, other: &End) -> bool
 
 /// From the second to the first.
 fn turned<'a>(sides: (End<'a>, End<'a>), back: bool) -> (End<'a>, End<'a>)
-    ensures { result ≡ (if back then (sides.1, sides.0) else sides) }
+    ensures { result ≡ (if back then (sides.entry.1, sides.entry.0) else sides.entry) }
 {
     if back { (sides.1, sides.0) } else { sides }
 }
@@ -79,7 +79,7 @@ impl<'a> Open<'a> {
     /// Where a chain leads to from a side: each edge begins where the one before ends.
     fn chain_end(&self, tables: &[Table], from: End<'a>, edges: &[TextEdge]) -> Option<End<'a>>
         ensures { option_map side_of result
-            ≡ chain_end tables.now (branch_of self.now) (side_of from) edges.now }
+            ≡ chain_end tables.now (branch_of self.now) (side_of from.entry) edges.now }
     {
         let mut end = from;
         for edge in edges {
@@ -107,8 +107,8 @@ impl<'a> Open<'a> {
 
     /// Whether the chain leads from a side that is a text to another text.
     fn leads_to_other_text(&self, tables: &[Table], from: End<'a>, edges: &[TextEdge]) -> bool
-        ensures { result ≡ chain_leads_to tables.now (branch_of self.now) (side_of from) edges.now
-            (are_two_texts tables.now (branch_of self.now) (side_of from)) }
+        ensures { result ≡ chain_leads_to tables.now (branch_of self.now) (side_of from.entry) edges.now
+            (are_two_texts tables.now (branch_of self.now) (side_of from.entry)) }
     {
         match self.chain_end(tables, from, edges) {
             Some(end) => are_two_texts(&from, &end),

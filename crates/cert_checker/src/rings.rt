@@ -152,7 +152,7 @@ impl<'a> Open<'a> {
     fn comes_back(&self, tables: &[Table], start: End<'a>, edges: &[SumEdge]) -> bool
         requires { length edges.now ≤ 32769 }
         ensures { result ≡ option_map_or
-            (λ bounds. is_chain (side_of start) bounds (side_of start)
+            (λ bounds. is_chain (side_of start.entry) bounds (side_of start.entry)
                 && int_lt (sum_of bounds) (pos 0))
             (bounds_of tables.now (branch_of self.now) edges.now) false }
     {

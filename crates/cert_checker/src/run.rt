@@ -33,7 +33,7 @@ impl<'a> Run<'a> {
     /// One branch with these facts and no row.
     pub(crate) fn new(alloc: Global, facts: Vec<Stated<'a>>) -> Run<'a>
         ensures run { IsRun result }
-        ensures branch { branches_of result ≡ record { facts = facts.items; tables = [] } ∷ [] }
+        ensures branch { branches_of result ≡ record { facts = facts.entry.items; tables = [] } ∷ [] }
     {
         Run {
             branch: Open {
@@ -55,7 +55,7 @@ impl<'a> Run<'a> {
     /// Takes the next of the branches that wait in place of the one in hand.
     fn take_next(&mut self) -> Result<(), NoMemory>
         requires run { IsRun self.old }
-        requires open { self.old.is_closed ≡ false }
+        requires going { self.old.is_closed ≡ false }
         ensures run { OnOk result (IsRun self.new) }
         ensures rest { OnOk result (branches_of self.new
             ≡ waiting_branches (branch_of self.old.branch) self.old.waiting.items) }
@@ -73,7 +73,7 @@ impl<'a> Run<'a> {
 
     fn close_if(&mut self, right: bool) -> Result<bool, NoMemory>
         requires run { IsRun self.old }
-        requires open { self.old.is_closed ≡ false }
+        requires going { self.old.is_closed ≡ false }
         ensures right { IfOk result (λ answer. answer ≡ right) }
         ensures run { OnOk result (IsRun self.new) }
         ensures closed { OnOk result (right ≡ true → branches_of self.new
@@ -94,7 +94,7 @@ impl<'a> Run<'a> {
     ) -> Result<(), NoMemory>
         requires { list_all (is_within (2 ^ 66)) parts.now ≡ true }
         ensures branch { self.new.branch ≡ self.old.branch }
-        ensures open { self.new.is_closed ≡ self.old.is_closed }
+        ensures going { self.new.is_closed ≡ self.old.is_closed }
         ensures waiting { OnOk result (self.new.waiting.items ≡ self.old.waiting.items
             ++ reverse (map (waits (branch_of self.old.branch) whole.now.rows) parts.now)) }
     {
@@ -111,7 +111,7 @@ impl<'a> Run<'a> {
     /// Puts a branch for each part of a disjunction in the place of the one in hand.
     fn split(&mut self, alloc: Global, fact: u32) -> Result<bool, NoMemory>
         requires run { IsRun self.old }
-        requires open { self.old.is_closed ≡ false }
+        requires going { self.old.is_closed ≡ false }
         ensures run { OnOk result (IsRun self.new) }
         ensures stepped { IfOk result (λ right.
             stepped (opened (branch_of self.old.branch) fact with_each_part)

@@ -29,7 +29,7 @@ atom_said (said.Same row other) = atom.Same row other
 atom_said (said.Other row other) = atom.Other row other
 
 abbrev pub branch_of : Open → Branch
-branch_of open = record { facts = open.facts.items; tables = open.tables.items }
+branch_of kept = record { facts = kept.facts.items; tables = kept.tables.items }
 
 -- its bounds lie within plus or minus 2^66
 abbrev pub IsModerate : Said → Type 0
