@@ -8,7 +8,7 @@ use Rattle.sort_formula.specs.Facts.{Fact, Branch}
 use Rattle.cert_checker.specs.declared.run.Waiting.{Waiting}
 use Rattle.cert_checker.specs.inner.Branches.{waiting_branch, waiting_branches, waits, AreFronts, AreFrontsOf}
 
-abbrev branch : List Fact → List ℕ → Branch
+abbrev pub branch : List Fact → List ℕ → Branch
 branch facts tables = record { facts = facts; tables = tables }
 
 pub fronts_of_longer : (n m more rows : ℕ) → n ≤ more → m ≤ rows → (ws : List Waiting) → AreFronts n m ws → AreFronts more rows ws
@@ -96,3 +96,26 @@ module _ (b : Branch) (rows : List ℕ) where
   pub parts_in_front : (parts : List Formula) (ws : List Waiting) → AreFrontsOf b ws → AreFrontsOf b (ws ++ reverse (map (waits b rows) parts))
   parts_in_front parts ws fronts =
       subst (AreFronts (length b.facts) (length b.tables)) (sym (turned parts ws)) (parts_are_fronts parts (reverse ws) fronts)
+
+-- ---- the next branch
+
+module _ (facts : List Fact) (tables : List ℕ) (waiting rest : List Waiting) (w : Waiting) (is : waiting ≡ rest ++ w ∷ [])
+    (fronts : AreFrontsOf (branch facts tables) waiting) (new_facts : List Fact) (new_tables : List ℕ) (facts_are : new_facts ≡ take w.facts facts ++ w.own ∷ [])
+    (tables_are : new_tables ≡ take w.rows tables) where
+  next_first : reverse waiting ≡ w ∷ reverse rest
+  next_first = ap reverse is ∙ reverse-append rest (w ∷ [])
+
+  next_fronts : AreFronts (length facts) (length tables) (w ∷ reverse rest)
+  next_fronts = subst (AreFronts (length facts) (length tables)) next_first fronts
+
+  next_is : branch new_facts new_tables ≡ waiting_branch (branch facts tables) w
+  next_is = ap₂ branch facts_are tables_are
+
+  pub next_is_run : AreFrontsOf (branch new_facts new_tables) rest
+  next_is_run = subst (λ (b : Branch). AreFrontsOf b rest) (sym next_is) (rest_fronts facts tables w (reverse rest) next_fronts)
+
+  pub next_branches : branch new_facts new_tables ∷ waiting_branches (branch new_facts new_tables) rest ≡ waiting_branches (branch facts tables) waiting
+  next_branches =
+      ap (λ (b : Branch). b ∷ waiting_branches b rest) next_is
+      ∙ (ap (λ bs. waiting_branch (branch facts tables) w ∷ bs) (rest_stays facts tables w (reverse rest) next_fronts)
+      ∙ sym (ap (map (waiting_branch (branch facts tables))) next_first))

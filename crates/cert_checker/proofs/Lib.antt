@@ -1,2 +1,4 @@
 pub mod Moderate
 pub mod Fronts
+pub mod Sums
+pub mod Growing

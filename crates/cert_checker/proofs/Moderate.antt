@@ -90,3 +90,11 @@ rolled y tables bound =
 
 pub sentence_is_within : (g : Formula) → BoundIsWithin g
 sentence_is_within = ind-Formula BoundIsWithin (λ x y is. subst (λ z. BoundIsWithin (roll-Formula z)) is (rolled y))
+
+-- ---- the parts of a formula
+
+pub and_is_within : (greatest : ℕ) (g : Formula) (parts : List Formula) → g ≡ f.And parts → is_within greatest g ≡ true → list_all (is_within greatest) parts ≡ true
+and_is_within greatest g parts is within = sym (within_and greatest parts) ∙ (sym (ap (is_within greatest) is) ∙ within)
+
+pub or_is_within : (greatest : ℕ) (g : Formula) (parts : List Formula) → g ≡ f.Or parts → is_within greatest g ≡ true → list_all (is_within greatest) parts ≡ true
+or_is_within greatest g parts is within = sym (within_or greatest parts) ∙ (sym (ap (is_within greatest) is) ∙ within)

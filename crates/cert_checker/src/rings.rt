@@ -6,7 +6,7 @@ ghost use Rattle.sort_formula.specs.Facts.{atom_of, domain_at};
 ghost use Rattle.sort_formula.specs.Rings.{bound_in, low_bound, high_bound, may_follow, may_follow_round, is_guarded, bound_of, bounds_of, is_chain, sum_of, is_negative_ring, is_contradiction};
 ghost use Rattle.sort_formula.specs.Sentences.{is_moderate};
 ghost use Rattle.cert_checker.specs.inner.Seen.{side_of, branch_of};
-ghost use Rattle.cert_checker.specs.inner.Inequalities.{bound_said, range_of};
+ghost use Rattle.cert_checker.specs.inner.Inequalities.{bound_said, range_of, comes_back};
 
 use crate::facts::{End, Open, Said};
 use lint_core::{Domain, SumEdge, Table};
@@ -151,10 +151,8 @@ impl<'a> Open<'a> {
     /// Whether the edges lead from a side back to it, and their bounds add up to less than 0.
     fn comes_back(&self, tables: &[Table], start: End<'a>, edges: &[SumEdge]) -> bool
         requires { length edges.now ≤ 32769 }
-        ensures { result ≡ option_map_or
-            (λ bounds. is_chain (side_of start.entry) bounds (side_of start.entry)
-                && int_lt (sum_of bounds) (pos 0))
-            (bounds_of tables.now (branch_of self.now) edges.now) false }
+        ensures { result ≡ comes_back tables.now (branch_of self.now) (side_of start.entry)
+            (side_of start.entry) (pos 0) edges.now }
     {
         let mut end = start;
         let mut sum: i128 = 0;
