@@ -1,12 +1,15 @@
 -- A ring of inequalities, edge by edge.
-use Rattle.std.proofs.Common.{◌≡◌, ◌∙◌, sym, ap, ap₂, refl, ℕ, ℤ, pos, ◌+ℤ◌, Bool, true, false, ◌&&◌, List, [], ◌∷◌}
+use Rattle.std.proofs.Common.{◌≡◌, ◌∙◌, sym, ap, ap₂, refl, ℕ, ◌+◌, ◌*◌, ◌^◌, ◌<◌, ◌≤◌, ℤ, pos, neg_ℤ, ◌+ℤ◌, ◌≤ℤ◌, to_z, of_z, Bool, true, false, ◌&&◌, List, [], ◌∷◌, length, drop, get_or, arith, add-one, drop-cons}
+use Rattle.std.proofs.lemmas.Int.{ints}
 use Rattle.std.proofs.Math.IntN.{+ℤ_assoc, +ℤ_idl, +ℤ_idr}
+use mir.Syntax.{w128}
 use Rattle.std.specs.Prelude.{Option, Some, None, int_lt, option_and_then}
 use Rattle.std.specs.Option.{option_map_or}
 use Rattle.lint_core.specs.declared.certificate.SumEdge.{SumEdge}
 use Rattle.lint_core.specs.declared.schema.Table.{Table}
 use Rattle.sort_formula.specs.declared.formula.Side.{Side}
 use Rattle.sort_formula.specs.Facts.{Branch, is_same_side}
+use Rattle.sort_formula.specs.Sentences.{is_moderate}
 use Rattle.sort_formula.specs.Rings.{Bound, bound_of, bounds_of, is_chain, is_negative_ring, sum_of}
 use Rattle.cert_checker.specs.inner.Inequalities.{comes_back}
 
@@ -76,3 +79,40 @@ module _ (schema : List Table) (branch : Branch) where
       option_map_or is_negative_ring (bounds_of schema branch (e ∷ es)) false ≡ false
   no_ring e es none =
       ap (λ (first : Option Bound). option_map_or is_negative_ring (option_and_then (λ (b : Bound). option_and_then (λ bs. Some (b ∷ bs)) (bounds_of schema branch es)) first) false) none
+
+-- ---- sums fit
+
+pub moderate_low : (most : ℤ) → is_moderate most ≡ true → neg_ℤ (pos (2 ^ 66)) ≤ℤ most
+moderate_low most moderate = grind (arith, ints)
+
+pub moderate_high : (most : ℤ) → is_moderate most ≡ true → most ≤ℤ pos (2 ^ 66)
+moderate_high most moderate = grind (arith, ints)
+
+pub total_fits : (index : ℕ) (sum most : ℤ) → index < 32769 → neg_ℤ (pos (index * 2 ^ 66)) ≤ℤ sum → sum ≤ℤ pos (index * 2 ^ 66) →
+    neg_ℤ (pos (2 ^ 66)) ≤ℤ most → most ≤ℤ pos (2 ^ 66) → to_z w128 (of_z w128 (sum +ℤ to_z w128 (of_z w128 most))) ≡ sum +ℤ most
+total_fits index sum most few low high least greatest = omega (arith, ints)
+
+pub total_low : (index : ℕ) (sum most : ℤ) → neg_ℤ (pos (index * 2 ^ 66)) ≤ℤ sum → neg_ℤ (pos (2 ^ 66)) ≤ℤ most →
+    neg_ℤ (pos ((index + 1) * 2 ^ 66)) ≤ℤ (sum +ℤ most)
+total_low index sum most low least = omega (arith, ints)
+
+pub total_high : (index : ℕ) (sum most : ℤ) → sum ≤ℤ pos (index * 2 ^ 66) → most ≤ℤ pos (2 ^ 66) → (sum +ℤ most) ≤ℤ pos ((index + 1) * 2 ^ 66)
+total_high index sum most high greatest = omega (arith, ints)
+
+-- ---- the edges that are left
+
+next_edge : (edges : List SumEdge) (index : ℕ) (d : SumEdge) → index < length edges → drop index edges ≡ get_or edges index d ∷ drop (index + 1) edges
+next_edge edges index d within = drop-cons edges index d within ∙ ap (λ n. get_or edges index d ∷ drop n edges) (sym (add-one index))
+
+module _ (schema : List Table) (branch : Branch) (to from : Side) (sum : ℤ) (edges : List SumEdge) (index : ℕ) (d : SumEdge) (within : index < length edges) where
+  pub ring_goes_on : (b : Bound) → Some b ≡ bound_of schema branch (get_or edges index d) → is_same_side from b.left ≡ true → (total : ℤ) → total ≡ sum +ℤ b.most →
+      comes_back schema branch to b.right total (drop (index + 1) edges) ≡ comes_back schema branch to from sum (drop index edges)
+  ring_goes_on b is same total adds =
+      ap (λ total. comes_back schema branch to b.right total (drop (index + 1) edges)) adds
+      ∙ (sym (ring_more schema branch to from sum (get_or edges index d) (drop (index + 1) edges) b (sym is) same)
+      ∙ sym (ap (comes_back schema branch to from sum) (next_edge edges index d within)))
+
+pub ring_from_first : (schema : List Table) (branch : Branch) (edges : List SumEdge) (d : SumEdge) → 1 ≤ length edges → (b : Bound) → Some b ≡ bound_of schema branch (get_or edges 0 d) →
+    comes_back schema branch b.left b.left (pos 0) edges ≡ option_map_or is_negative_ring (bounds_of schema branch edges) false
+ring_from_first schema branch [] d some b is = absurd (omega arith)
+ring_from_first schema branch (e ∷ es) d some b is = ring_starts schema branch e es b (sym is)

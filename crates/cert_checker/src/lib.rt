@@ -10,6 +10,7 @@
 #![tactic(auto)]
 
 mod chains;
+mod check;
 mod closing;
 mod facts;
 mod nulls;
@@ -17,3 +18,5 @@ mod opening;
 mod paths;
 mod rings;
 mod run;
+
+pub use check::{Checked, check_sentence};
