@@ -1,5 +1,5 @@
 -- The number of the first wrong step, step by step.
-use Rattle.std.proofs.Common.{◌≡◌, ◌∙◌, sym, ap, refl, ℕ, suc, ◌+◌, ◌<◌, Bool, true, false, List, [], ◌∷◌, ◌++◌, length, drop, get_or, add-one, drop-cons}
+use Rattle.std.proofs.Common.{◌≡◌, ◌∙◌, sym, ap, ap₂, refl, ℕ, suc, ◌+◌, ◌<◌, Bool, true, false, List, [], ◌∷◌, ◌++◌, length, drop, get_or, add-one, drop-cons}
 use Rattle.std.specs.Prelude.{Option, Some, None, if◌then◌else◌, option_map}
 use Rattle.std.specs.Option.{option_map_or}
 use Rattle.std.proofs.lemmas.Option.{same_Some}
@@ -42,17 +42,16 @@ module _ (schema : List Table) (number : ℕ) where
 
 -- ---- the steps that are left
 
-module _ (schema : List Table) (steps : List Step) (index : ℕ) (d : Step) (within : index < length steps) (now bs : List Branch) where
-  next_step : drop index steps ≡ get_or steps index d ∷ drop (index + 1) steps
-  next_step = drop-cons steps index d within ∙ ap (λ n. get_or steps index d ∷ drop n steps) (sym (add-one index))
+module _ (schema : List Table) (steps : List Step) (index : ℕ) (within : index < length steps) (s : Step) (item : s ≡ get_or steps index s) (now bs : List Branch) where
+  next_step : drop index steps ≡ s ∷ drop (index + 1) steps
+  next_step = drop-cons steps index s within ∙ ap₂ (λ (first : Step) n. first ∷ drop n steps) (sym item) (sym (add-one index))
 
-  pub next_right : advanced schema (get_or steps index d) now ≡ Some bs →
+  pub next_right : advanced schema s now ≡ Some bs →
       first_wrong ((index + 1) + 1) schema (drop (index + 1) steps) bs ≡ first_wrong (index + 1) schema (drop index steps) now
   next_right is =
       ap (λ n. first_wrong n schema (drop (index + 1) steps) bs) (add-one (index + 1))
-      ∙ (sym (right_step schema (index + 1) (get_or steps index d) (drop (index + 1) steps) now bs is)
+      ∙ (sym (right_step schema (index + 1) s (drop (index + 1) steps) now bs is)
       ∙ sym (ap (λ left. first_wrong (index + 1) schema left now) next_step))
 
-  pub next_wrong : advanced schema (get_or steps index d) now ≡ None → first_wrong (index + 1) schema (drop index steps) now ≡ Some (index + 1)
-  next_wrong is =
-      ap (λ left. first_wrong (index + 1) schema left now) next_step ∙ wrong_step_is schema (index + 1) (get_or steps index d) (drop (index + 1) steps) now is
+  pub next_wrong : advanced schema s now ≡ None → first_wrong (index + 1) schema (drop index steps) now ≡ Some (index + 1)
+  next_wrong is = ap (λ left. first_wrong (index + 1) schema left now) next_step ∙ wrong_step_is schema (index + 1) s (drop (index + 1) steps) now is
