@@ -54,10 +54,7 @@ impl<'a> Open<'a> {
         let (row, other) = self.same_rows(fact)?;
         match self.domain(tables, row, column)? {
             Domain::Text { .. } => {
-                let cells = (
-                    End::Cell { row, column },
-                    End::Cell { row: other, column },
-                );
+                let cells = (End::Cell { row, column }, End::Cell { row: other, column });
                 Some(turned(cells, back))
             }
             Domain::Number { .. } => None,

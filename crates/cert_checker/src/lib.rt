@@ -20,3 +20,6 @@ mod rings;
 mod run;
 
 pub use check::{Checked, check_sentence};
+
+#[cfg(test)]
+mod tests;

@@ -60,7 +60,9 @@ fn range(domain: Domain) -> Option<(i64, i64)>
 {
     match domain {
         Domain::Number {
-            least, greatest, ..
+            least,
+            greatest,
+            ..
         } => Some((least, greatest)),
         Domain::Text { .. } => None,
     }
@@ -111,13 +113,7 @@ impl<'a> Open<'a> {
 
     /// The cells of a number column in the two rows that a fact says are one, from the first row
     /// to the second, or back.
-    fn same(
-        &self,
-        tables: &[Table],
-        fact: u32,
-        column: u32,
-        back: bool,
-    ) -> Option<Inequality<'a>>
+    fn same(&self, tables: &[Table], fact: u32, column: u32, back: bool) -> Option<Inequality<'a>>
         ensures stated { option_map bound_said result
             ≡ bound_of tables.now (branch_of self.now)
             (if back then edge.Back fact column else edge.Same fact column) }

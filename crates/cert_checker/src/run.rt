@@ -143,7 +143,7 @@ impl<'a> Run<'a> {
             ≡ (if right then Some (branches_of self.new) else None)) }
     {
         if self.is_closed {
-            return Ok(false);
+            return Ok(false); // (the step is left over)
         }
         match step {
             Step::And { fact } => self.branch.take_apart(alloc, *fact),

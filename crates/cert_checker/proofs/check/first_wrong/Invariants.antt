@@ -7,6 +7,6 @@ abbrev pub invariant-loop-index : goal.invariant-loop-index
 invariant-loop-index l = record {
   run : IsRun l.run;
   rest :
-    first_wrong (l.index + 1) l.tables (drop l.index l.steps) (branches_of l.run)
-    ≡ first_wrong 1 l.tables l.steps (record { facts = l.fn.facts.items; tables = [] } ∷ []);
+      first_wrong (l.index + 1) l.tables (drop l.index l.steps) (branches_of l.run)
+      ≡ first_wrong 1 l.tables l.steps (record { facts = l.fn.facts.items; tables = [] } ∷ []);
 }

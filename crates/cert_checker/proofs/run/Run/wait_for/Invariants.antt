@@ -8,6 +8,6 @@ invariant-loop-part l = record {
   branch : l.self.branch ≡ l.fn.self.branch;
   going : l.self.is_closed ≡ l.fn.self.is_closed;
   waiting :
-    l.self.waiting.items ++ reverse (map (waits (branch_of l.fn.self.branch) l.whole.rows) l.part-iterator.iter.rest.now)
-    ≡ l.fn.self.waiting.items ++ reverse (map (waits (branch_of l.fn.self.branch) l.whole.rows) l.parts);
+      l.self.waiting.items ++ reverse (map (waits (branch_of l.fn.self.branch) l.whole.rows) l.part-iterator.iter.rest.now)
+      ≡ l.fn.self.waiting.items ++ reverse (map (waits (branch_of l.fn.self.branch) l.whole.rows) l.parts);
 }
