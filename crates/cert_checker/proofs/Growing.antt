@@ -1,6 +1,6 @@
 -- Steps that put one branch, or one for each part of a fact, in the place of the first.
-use Rattle.std.proofs.Common.{◌≡◌, ◌∙◌, sym, ap, ap₂, subst, refl, ℕ, Bool, true, false, List, [], ◌∷◌, ◌++◌, length, map, reverse}
-use Rattle.std.specs.Prelude.{Option, Some, None, Result, Ok, Err, IfOk, OnOk, slice_get, option_and_then, if◌then◌else◌}
+use Rattle.std.proofs.Common.{◌≡◌, ◌∙◌, sym, ap, ap₂, subst, ℕ, Bool, true, false, List, [], ◌∷◌, ◌++◌, map, reverse}
+use Rattle.std.specs.Prelude.{Some, None, Result, Ok, Err, IfOk, OnOk, slice_get, option_and_then, if◌then◌else◌}
 use Rattle.lint_base.specs.declared.place.NoMemory.{NoMemory}
 use Rattle.lint_core.specs.declared.certificate.Step.{Step}
 use Rattle.lint_core.specs.declared.schema.Table.{Table}
@@ -12,7 +12,7 @@ use Rattle.cert_checker.specs.declared.facts.Open.{Open}
 use Rattle.cert_checker.specs.declared.run.Run.{Run}
 use Rattle.cert_checker.specs.declared.run.Waiting.{Waiting}
 use Rattle.cert_checker.specs.inner.Seen.{branch_of}
-use Rattle.cert_checker.specs.inner.Branches.{AreFronts, AreFrontsOf, Extends, IsRun, advanced, branches_of, stepped, waiting_branch, waiting_branches, waits}
+use Rattle.cert_checker.specs.inner.Branches.{AreFrontsOf, Extends, IsRun, advanced, branches_of, stepped, waiting_branches, waits}
 use Rattle.cert_checker.proofs.Fronts.{branch, fronts_grow, fronts_stay, parts_first, parts_in_front}
 
 -- ---- both lists grow

@@ -9,7 +9,7 @@ use Rattle.sort_formula.specs.declared.formula.Formula.{Formula, fold_out-Formul
 use Rattle.sort_formula.specs.declared.formula.Formula.TheVariants as f
 use Rattle.sort_formula.specs.declared.formula.Formula.TheOpen.{Formula-F}
 use Rattle.sort_formula.specs.Bounds.{atom_is_within, within_step, is_within}
-use Rattle.sort_formula.specs.Sentences.{Meaning, layer_is, is_variable, has_variable, is_moderate, are_of_one_table, atom_is_bound, is_bound}
+use Rattle.sort_formula.specs.Sentences.{Meaning, layer_is, has_variable, is_moderate, atom_is_bound, is_bound}
 
 -- ---- of each kind of formula
 

@@ -1,5 +1,5 @@
 -- What the number of the first wrong step says of the answer.
-use Rattle.std.proofs.Common.{◌≡◌, ◌∙◌, sym, ap, refl, ℕ, Bool, true, false, List, [], ◌∷◌, map}
+use Rattle.std.proofs.Common.{◌≡◌, ◌∙◌, sym, ap, refl, ℕ, true, false, List, [], ◌∷◌, map}
 use Rattle.std.specs.Prelude.{Option, Some, None, not, is_some}
 use Rattle.constraint_axioms.specs.declared.axiom.Axiom.{Axiom}
 use Rattle.constraint_axioms.specs.Spoken.{spoken}

@@ -1,6 +1,6 @@
 -- The open branches that the checker keeps as two lists, of which each branch that waits has a front. Nothing here has
 -- to be believed: no public contract says it.
-use Rattle.std.specs.Prelude.{ℕ, ◌≤◌, ◌≡◌, Bool, true, false, List, [], ◌∷◌, ◌++◌, length, map, reverse, take, Option, Some, None, if◌then◌else◌, option_map}
+use Rattle.std.specs.Prelude.{ℕ, ◌≤◌, ◌≡◌, Bool, false, List, [], ◌∷◌, ◌++◌, length, map, reverse, take, Option, None, if◌then◌else◌, option_map}
 use Rattle.lint_core.specs.declared.certificate.Step.{Step}
 use Rattle.lint_core.specs.declared.certificate.Step.TheVariants as step
 use Rattle.lint_core.specs.declared.schema.Table.{Table}

@@ -1,13 +1,12 @@
 -- What the checker keeps, as the definition of acceptance has it. Nothing here has to be believed: no public contract
 -- says it.
-use Rattle.std.specs.Prelude.{ℕ, ◌^◌, Bool, true, false, ◌≡◌, Option, Some, None, List}
-use Rattle.std.specs.Option.{option_map_or}
+use Rattle.std.specs.Prelude.{◌^◌, true, ◌≡◌}
 use Rattle.sort_formula.specs.declared.formula.Side.{Side}
 use Rattle.sort_formula.specs.declared.formula.Side.TheVariants as side
 use Rattle.sort_formula.specs.declared.formula.Atom.{Atom}
 use Rattle.sort_formula.specs.declared.formula.Atom.TheVariants as atom
-use Rattle.sort_formula.specs.Bounds.{atom_is_within, is_within}
-use Rattle.sort_formula.specs.Facts.{Fact, Branch}
+use Rattle.sort_formula.specs.Bounds.{atom_is_within}
+use Rattle.sort_formula.specs.Facts.{Branch}
 use Rattle.cert_checker.specs.declared.facts.End.{End}
 use Rattle.cert_checker.specs.declared.facts.End.TheVariants as end
 use Rattle.cert_checker.specs.declared.facts.Said.{Said}

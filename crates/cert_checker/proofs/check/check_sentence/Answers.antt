@@ -1,4 +1,4 @@
-use Rattle.std.proofs.Common.{◌≡◌, ◌∙◌, [], ◌∷◌, ap, refl, List, map}
+use Rattle.std.proofs.Common.{◌∙◌, [], ◌∷◌, ap, refl, List, map}
 use Rattle.constraint_axioms.specs.declared.axiom.Axiom.{Axiom}
 use Rattle.sort_formula.specs.Certificate.{fact_of, first_wrong}
 use Rattle.cert_checker.proofs.Verdict.{accepted_where_none, refused_where_some, wrong_is}

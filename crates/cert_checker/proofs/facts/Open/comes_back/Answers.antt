@@ -1,4 +1,4 @@
-use Rattle.std.proofs.Common.{◌≡◌, ◌∙◌, ◌<◌, ◌+ℤ◌, ℤ, sym, to_z, of_z, length, arith}
+use Rattle.std.proofs.Common.{◌∙◌, ◌<◌, ◌+ℤ◌, ℤ, sym, to_z, of_z, length, arith}
 use mir.Syntax.{w128}
 use Rattle.lint_core.specs.declared.certificate.SumEdge.TheVariants as edge
 use Rattle.cert_checker.specs.inner.Inequalities.{bound_said}

@@ -1,4 +1,3 @@
-use Rattle.std.proofs.Common.{◌≡◌}
 use Rattle.cert_checker.proofs.facts.Open.ends.Goals as goal
 
 pub returns-in-Fact : goal.returns-in-Fact

@@ -1,4 +1,4 @@
-use Rattle.std.proofs.Common.{◌≡◌, ◌∙◌, ◌^◌, ap, sym}
+use Rattle.std.proofs.Common.{◌∙◌, ◌^◌, ap, sym}
 use Rattle.std.specs.List.{list_all}
 use Rattle.std.specs.Prelude.{Some}
 use Rattle.sort_formula.specs.Bounds.{is_within}

@@ -1,4 +1,3 @@
-use Rattle.std.proofs.Common.{◌≡◌}
 use Rattle.lint_core.specs.declared.certificate.Step.TheVariants as step
 use Rattle.cert_checker.proofs.Growing.{grown_runs, grown_steps}
 use Rattle.cert_checker.proofs.run.Run.step.Goals as goal

@@ -1,6 +1,4 @@
-use Rattle.std.proofs.Common.{◌≡◌, ◌∙◌, ap, [], ◌∷◌, ◌++◌}
-use Rattle.cert_checker.specs.inner.Seen.{branch_of}
-use Rattle.cert_checker.specs.inner.Branches.{waiting_branches}
+use Rattle.std.proofs.Common.{◌∙◌, ap, [], ◌∷◌, ◌++◌}
 use Rattle.cert_checker.proofs.Fronts.{next_is_run, next_branches}
 use Rattle.cert_checker.proofs.run.Run.take_next.Goals as goal
 
