@@ -9,8 +9,12 @@
 //! No call computes an order or its row terms yet.
 #![tactic(auto)]
 
+mod asks;
+mod edges;
 mod laws;
+mod order;
 mod term;
 
 pub use laws::orders_exclude_cycles;
+pub use order::{SortStop, sort_order};
 pub use term::{Order, RowTerm, Rows};
