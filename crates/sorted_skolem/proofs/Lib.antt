@@ -7,4 +7,5 @@ pub mod Living
 pub mod Rounds
 pub mod Sorting
 pub mod Steps
+pub mod Tallying
 pub mod Telling

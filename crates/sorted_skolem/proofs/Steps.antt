@@ -23,6 +23,14 @@ module _ {A : Type 0} where
       next (y ∷ ys) zero x at = ap (λ z. z ∷ ys) (same_Some y x at)
       next (y ∷ ys) (suc i) x at = next ys i x at
 
+  pub take_next : (xs : List A) (i : ℕ) (x : A) → slice_get xs i ≡ Some x → take (i + 1) xs ≡ take i xs ++ x ∷ []
+  take_next xs i x at = let one : i + 1 ≡ suc i = omega arith in ap (λ n. take n xs) one ∙ next xs i x at
+    where
+      next : (xs : List A) (i : ℕ) (x : A) → slice_get xs i ≡ Some x → take (suc i) xs ≡ take i xs ++ x ∷ []
+      next [] i x at = cc
+      next (y ∷ ys) zero x at = ap (λ z. z ∷ []) (same_Some y x at)
+      next (y ∷ ys) (suc i) x at = ap (λ zs. y ∷ zs) (next ys i x at)
+
   pub flat_next : {B : Type 0} (f : A → List B) (xs : List A) (i : ℕ) (x : A) (done more whole : List B) → slice_get xs i ≡ Some x → done ++ flat_map f (drop i xs) ≡ whole → more ≡ done ++ f x →
       more ++ flat_map f (drop (i + 1) xs) ≡ whole
   flat_next f xs i x done more whole at all is =
@@ -33,3 +41,9 @@ module _ {A : Type 0} where
   pub no_elements : (xs : List A) → length xs ≡ 0 → xs ≡ []
   no_elements [] none = refl
   no_elements (x ∷ xs) none = absurd (omega arith)
+
+-- a number at its place
+pub get_number : (xs : List ℕ) (i : ℕ) → i < length xs → slice_get xs i ≡ Some (get_or xs i 0)
+get_number [] i low = absurd (omega arith)
+get_number (x ∷ xs) zero low = refl
+get_number (x ∷ xs) (suc i) low = get_number xs i (omega arith)
