@@ -3,3 +3,9 @@ pub mod Laying
 pub mod Ordered
 pub mod Parts
 pub mod RowTerms
+pub mod Living
+pub mod Rounds
+pub mod Sorting
+pub mod Steps
+pub mod Tallying
+pub mod Telling

@@ -3,14 +3,25 @@
 //! rows are asked for can be put in order, each behind those on which it waits, there are finitely
 //! many row terms, and here they have their numbers.
 //!
-//! The layer above may use the types and cite the law. A reader must believe `specs/Preorder` (the
-//! nodes of a sentence with their numbers), `specs/Graph` (which tables are live, what an edge, a
-//! cycle and an order of the live tables are) and `specs/Terms` (the row terms in their order).
-//! No call computes an order or its row terms yet.
+//! The layer above may use the types, `sort_order`, `rows_of` and the law. A reader must believe
+//! `specs/Preorder` (the nodes of a sentence with their numbers), `specs/Graph` (which tables are
+//! live, what an edge, a cycle and an order of the live tables are), `specs/Terms` (the row terms
+//! in their order) and `specs/Stops` (what is said of the answers that are not Ok). `specs/inner`
+//! speaks of the steps in between, and no public clause cites it.
+//!
+//! Wrong bodies that the contracts let through: those that answer `NoMemory` though there is
+//! memory, since no clause can say when memory ends: the tests show that both calls succeed.
 #![tactic(auto)]
 
+mod asks;
+mod count;
+mod edges;
 mod laws;
+mod order;
+mod rows;
 mod term;
 
 pub use laws::orders_exclude_cycles;
+pub use order::{SortStop, sort_order};
+pub use rows::{RowsStop, rows_of};
 pub use term::{Order, RowTerm, Rows};

@@ -1,0 +1,3 @@
+pub mod Asks
+pub mod Listing
+pub mod Waiting
