@@ -1,9 +1,8 @@
 -- The keys that the guards of a clause name are there, and the variables of an atom have their row terms.
-use Rattle.std.proofs.Common.{◌≡◌, ◌∙◌, sym, ap, ap₂, refl, subst, ℕ, zero, suc, ◌+◌, ◌-◌, ◌<◌, ◌≤◌, ◌⊎◌, inl, inr, true, false, List, [], ◌∷◌, ◌++◌, length, map, take, append-nil, arith}
+use Rattle.std.proofs.Common.{◌≡◌, ◌∙◌, sym, ap, subst, ℕ, ◌+◌, ◌-◌, ◌<◌, ◌≤◌, inl, inr, true, false, List, [], ◌∷◌, ◌++◌, length, take, append-nil, arith}
 use Rattle.std.proofs.lemmas.List.{length-map, length-append}
 use Rattle.std.proofs.lemmas.Option.{same_Some}
-use Rattle.std.specs.Prelude.{Option, Some, None, slice_get}
-use Rattle.lint_base.proofs.Lists.{slice_get_last}
+use Rattle.std.specs.Prelude.{Some, None, slice_get}
 use Rattle.sort_formula.specs.declared.formula.Atom.{Atom}
 use Rattle.sort_formula.specs.declared.formula.Formula.{Formula}
 use Rattle.sort_formula.specs.declared.formula.Formula.TheOpen.{Formula-F}
@@ -14,8 +13,8 @@ use Rattle.sorted_skolem.specs.Graph.{IsOrder}
 use Rattle.sorted_skolem.specs.Preorder.{Quantifier, Way, Node, nodes_of, outlines_of, node_at, forall_tables, forall_in, is_forall_node}
 use Rattle.sorted_skolem.specs.Terms.{row_terms}
 use Rattle.sorted_skolem.proofs.Among.{Among, among_at}
-use Rattle.sorted_skolem.proofs.Parts.{IsPart, root_of, node_below, with_quantifier, parts_in, at_above, at_part, tables_around, bound_layer, bound_at}
-use Rattle.sorted_skolem.proofs.RowTerms.{AreRows, IsRowOf, AreTerms, terms_are}
+use Rattle.sorted_skolem.proofs.Parts.{IsPart, node_below, with_quantifier, parts_in, at_above, at_part, tables_around, bound_layer, bound_at}
+use Rattle.sorted_skolem.proofs.RowTerms.{AreRows, AreTerms, terms_are}
 use Rattle.instantiate.specs.Keys.{Key, place_in, stage_of}
 use Rattle.instantiate.specs.Ground.{keys, maker_of, variables_of}
 use Rattle.instantiate.proofs.Numbering.{key_of, key_placed, placed_key, place_low, stage_within}

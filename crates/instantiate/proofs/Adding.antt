@@ -1,24 +1,22 @@
 -- The clauses of one more node, sentence or stage.
-use Rattle.std.proofs.Common.{◌≡◌, ◌∙◌, sym, ap, ap₂, refl, subst, ℕ, zero, suc, ◌+◌, ◌-◌, ◌^◌, ◌<◌, ◌≤◌, Bool, true, false, List, [], ◌∷◌, ◌++◌, length, map, min, take, get_or, append-nil, append_assoc, add-one, arith}
+use Rattle.std.proofs.Common.{◌≡◌, ◌∙◌, sym, ap, ap₂, refl, subst, ℕ, ◌+◌, ◌<◌, ◌≤◌, Bool, true, false, List, [], ◌∷◌, ◌++◌, length, map, take, get_or, append-nil, append_assoc, arith}
 use Rattle.std.proofs.lemmas.Bool.Decides.{nat_tests}
-use Rattle.std.proofs.lemmas.List.{map-append, length-append, length-map, length-take, take_more}
+use Rattle.std.proofs.lemmas.List.{map-append, length-map, length-take, take_more}
 use Rattle.std.proofs.lemmas.List.Concat.{flat_map-append}
 use Rattle.std.proofs.lemmas.Option.{same_Some, slice_get_read, slice_get_within, get_or_from_slice_get}
-use Rattle.std.specs.Prelude.{Some, slice_get, nat_eq, option_and_then, if◌then◌else◌}
+use Rattle.std.specs.Prelude.{Some, slice_get, nat_eq, if◌then◌else◌}
 use Rattle.std.specs.List.{flat_map}
-use Rattle.lint_core.specs.Database.{below}
 use Rattle.sorted_skolem.specs.declared.term.RowTerm.{RowTerm}
-use Rattle.sorted_skolem.specs.Preorder.{Node, node_at, forall_tables}
+use Rattle.sorted_skolem.specs.Preorder.{Node, forall_tables}
 use Rattle.sorted_skolem.specs.Terms.{numbered, term_lists}
-use Rattle.sorted_skolem.proofs.Among.{numbered_from, numbered_is, numbered_append}
+use Rattle.sorted_skolem.proofs.Among.{numbered_is, numbered_append}
 use Rattle.ground_theory.specs.declared.literal.Clause.{Clause}
-use Rattle.instantiate.specs.Keys.{Key, stage_of, keys_at, keys_of_stage}
-use Rattle.instantiate.specs.Ground.{clause_of}
+use Rattle.instantiate.specs.Keys.{Key, stage_of, keys_at}
 use Rattle.instantiate.specs.declared.outline.FlatNode.{FlatNode}
 use Rattle.instantiate.specs.inner.Flat.{node_of}
 use Rattle.instantiate.specs.declared.listing.Listing.{Listing}
 use Rattle.instantiate.specs.declared.spots.Spot.{Spot}
-use Rattle.instantiate.specs.inner.Listings.{outlines_in, clauses_at, node_clauses, sentence_clauses, stage_clauses}
+use Rattle.instantiate.specs.inner.Listings.{clauses_at, node_clauses, sentence_clauses, stage_clauses}
 use Rattle.instantiate.specs.inner.Spots.{saturated, spot_of}
 use Rattle.instantiate.proofs.Layers.{at_map}
 use Rattle.instantiate.proofs.Numbering.{key_of}

@@ -5,14 +5,14 @@ use Rattle.std.proofs.lemmas.Bool.Decides.{nat_tests}
 use Rattle.std.proofs.Math.Seq.{take-length}
 use Rattle.std.proofs.lemmas.List.{length-append, map-append, take-append-le, take_more}
 use Rattle.std.proofs.lemmas.List.Sums.{sum_by-append}
-use Rattle.std.proofs.lemmas.Option.{same_Some, slice_get_within}
-use Rattle.std.specs.Prelude.{Option, Some, slice_get, slice_index, nat_eq, if◌then◌else◌, option_and_then}
+use Rattle.std.proofs.lemmas.Option.{same_Some}
+use Rattle.std.specs.Prelude.{Some, slice_get, nat_eq, if◌then◌else◌, option_and_then}
 use Rattle.std.specs.List.{sum_by}
 use Rattle.lint_base.proofs.Lists.{slice_get_front, get_before}
 use Rattle.lint_core.specs.Database.{below}
 use Rattle.instantiate.specs.declared.spots.Spot.{Spot}
 use Rattle.instantiate.specs.inner.Spots.{saturated, size_at, sentence_size, stage_size, size_before, AreMoved, AreBases}
-use Rattle.instantiate.specs.inner.Bases.{node_base, ArePassed, HaveBases}
+use Rattle.instantiate.specs.inner.Bases.{ArePassed, HaveBases}
 
 module _ {A : Type 0} where
   -- an element of a list with one more at its end

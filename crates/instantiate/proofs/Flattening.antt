@@ -3,7 +3,6 @@ use Rattle.std.proofs.Common.{◌≡◌, ◌∙◌, sym, ap, ap₂, refl, subst,
 use Rattle.std.proofs.lemmas.List.{length-append}
 use Rattle.std.proofs.lemmas.List.Sums.{sum_by-cons}
 use Rattle.std.specs.Prelude.{Option, Some, None, sum, if◌then◌else◌}
-use Rattle.sort_formula.specs.declared.formula.Atom.{Atom}
 use Rattle.sort_formula.specs.declared.formula.Formula.{Formula, ind-Formula, fold_out-Formula, fold-roll-Formula, roll-Formula, out-Formula, map-Formula}
 use Rattle.sort_formula.specs.declared.formula.Formula.TheVariants as f
 use Rattle.sort_formula.specs.declared.formula.Formula.TheOpen.{Formula-F}

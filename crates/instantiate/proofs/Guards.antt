@@ -1,17 +1,15 @@
 -- The guards of a clause, by what stands above.
-use Rattle.std.proofs.Common.{◌≡◌, ◌∙◌, sym, ap, ap₂, refl, ℕ, ◌-◌, ◌<◌, Bool, true, false, List, [], ◌∷◌, ◌++◌, length, take, get_or, arith}
-use Rattle.std.proofs.lemmas.List.{take_all}
+use Rattle.std.proofs.Common.{◌≡◌, ap, ℕ, ◌-◌, ◌<◌, List, [], ◌∷◌, length, take, get_or, arith}
 use Rattle.std.proofs.lemmas.Option.{slice_get-get_or}
-use Rattle.std.specs.Prelude.{Option, Some, None, slice_get, unwrap_or, option_and_then, if◌then◌else◌}
+use Rattle.std.specs.Prelude.{Some, None, slice_get, unwrap_or, option_and_then}
 use Rattle.std.specs.Option.{option_map_or}
 use Rattle.sorted_skolem.specs.declared.term.RowTerm.{RowTerm}
-use Rattle.sorted_skolem.specs.Preorder.{Way, Node, node_at, is_forall_node}
+use Rattle.sorted_skolem.specs.Preorder.{Way, Node}
 use Rattle.ground_theory.specs.declared.literal.Guard.{Guard}
 use Rattle.instantiate.specs.Keys.{Key}
-use Rattle.instantiate.specs.Ground.{maker_of, guard_of, present_guard, above_key, guards_below, guards_of}
+use Rattle.instantiate.specs.Ground.{maker_of, guard_of, present_guard}
 use Rattle.instantiate.specs.declared.listing.Listing.{Listing}
 use Rattle.instantiate.specs.inner.Listings.{inside_guards, outlines_in}
-use Rattle.instantiate.proofs.Layers.{chosen, passed_by}
 use Rattle.instantiate.proofs.Numbering.{key_of}
 
 module _ (l : Listing) where

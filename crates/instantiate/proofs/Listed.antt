@@ -1,14 +1,14 @@
 -- The keys that are listed, in the words of the code.
-use Rattle.std.proofs.Common.{◌≡◌, ◌∙◌, sym, ap, ap₂, refl, subst, ℕ, zero, suc, ◌+◌, ◌-◌, ◌<◌, ◌≤◌, true, false, Bool, List, [], ◌∷◌, ◌++◌, length, map, min, take, ◌^◌, arith}
-use Rattle.std.proofs.lemmas.Option.{same_Some, slice_get_within, get_or_from_slice_get}
-use Rattle.std.specs.Prelude.{Option, Some, None, slice_get, unwrap_or}
+use Rattle.std.proofs.Common.{◌≡◌, ◌∙◌, sym, ap, ap₂, refl, subst, ℕ, ◌+◌, ◌-◌, ◌<◌, true, false, List, length, min, take, ◌^◌, arith}
+use Rattle.std.proofs.lemmas.Option.{slice_get_within, get_or_from_slice_get}
+use Rattle.std.specs.Prelude.{Some, slice_get, unwrap_or}
 use Rattle.sort_formula.specs.declared.formula.Atom.{Atom}
 use Rattle.sort_formula.specs.declared.formula.Formula.{Formula}
 use Rattle.sort_formula.specs.declared.formula.Formula.TheOpen.{Formula-F}
 use Rattle.sort_formula.specs.Sentences.{is_sentence}
 use Rattle.sorted_skolem.specs.declared.term.RowTerm.{RowTerm}
 use Rattle.sorted_skolem.specs.Preorder.{Way, Node, outlines_of, node_at, forall_tables, is_forall_node}
-use Rattle.sorted_skolem.specs.Terms.{row_terms, term_lists}
+use Rattle.sorted_skolem.specs.Terms.{term_lists}
 use Rattle.sorted_skolem.proofs.Among.{Among, among_at, at_among}
 use Rattle.sorted_skolem.proofs.RowTerms.{AreRows, lists_rows}
 use Rattle.instantiate.specs.Keys.{Key, number_of}

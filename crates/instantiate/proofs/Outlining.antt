@@ -1,15 +1,15 @@
 -- Nodes added to a list: a formula's own, and those below it.
-use Rattle.std.proofs.Common.{◌≡◌, ◌∙◌, sym, ap, ap₂, refl, subst, ℕ, zero, suc, ◌+◌, ◌<◌, ◌≤◌, Bool, true, false, List, [], ◌∷◌, ◌++◌, length, map, take, drop, get_or, append_assoc, add-one, arith, drop-cons}
+use Rattle.std.proofs.Common.{◌≡◌, ◌∙◌, sym, ap, ap₂, subst, ℕ, zero, suc, ◌+◌, ◌<◌, ◌≤◌, Bool, true, false, List, [], ◌∷◌, ◌++◌, length, map, take, drop, get_or, append_assoc, add-one, arith, drop-cons}
 use Rattle.std.proofs.lemmas.List.{map-append, length-append, length-map, take_more}
 use Rattle.std.proofs.lemmas.List.Elements.{All-append}
 use Rattle.std.proofs.lemmas.List.Sums.{sum_by-cons}
-use Rattle.std.specs.Prelude.{Option, Some, None, sum, if◌then◌else◌}
+use Rattle.std.specs.Prelude.{Some, sum, if◌then◌else◌}
 use Rattle.sort_formula.specs.declared.formula.Formula.{Formula, out-Formula}
 use Rattle.sort_formula.specs.declared.formula.Formula.TheVariants as f
 use Rattle.sort_formula.specs.Nodes.{nodes}
 use Rattle.sort_formula.specs.Sentences.{is_sentence}
 use Rattle.std.specs.List.{All}
-use Rattle.sorted_skolem.specs.Preorder.{Quantifier, Way, Node, laid, laid_parts, nodes_of, outlines_of}
+use Rattle.sorted_skolem.specs.Preorder.{Quantifier, Node, laid, laid_parts, nodes_of, outlines_of}
 use Rattle.instantiate.specs.declared.outline.Binder.{Binder}
 use Rattle.instantiate.specs.declared.outline.FlatNode.{FlatNode}
 use Rattle.instantiate.specs.inner.Flat.{node_of, quantifier_of, way_above}

@@ -1,5 +1,5 @@
 -- What the code counts is how many keys there are; and the bases and steps that it keeps give the number of each key.
-use Rattle.std.proofs.Common.{◌≡◌, ◌∙◌, sym, ap, ap₂, refl, subst, ℕ, zero, suc, ◌+◌, ◌*◌, ◌-◌, ◌^◌, ◌<◌, ◌≤◌, Bool, true, false, List, [], ◌∷◌, ◌++◌, length, map, min, take, get_or, add-one, arith}
+use Rattle.std.proofs.Common.{◌≡◌, ◌∙◌, sym, ap, ap₂, refl, subst, ℕ, ◌+◌, ◌*◌, ◌-◌, ◌^◌, ◌<◌, ◌≤◌, Bool, true, false, List, [], ◌∷◌, ◌++◌, length, map, min, take, get_or, add-one, arith}
 use Rattle.std.proofs.lemmas.List.{map-append, take-map, take_more}
 use Rattle.std.proofs.lemmas.List.Sums.{sum_by-cons}
 use Rattle.std.proofs.lemmas.Option.{slice_get_within, get_or_from_slice_get}
@@ -22,7 +22,7 @@ use Rattle.instantiate.specs.Ground.{keys, domains_of}
 use Rattle.instantiate.specs.declared.listing.Listing.{Listing}
 use Rattle.instantiate.specs.declared.spots.Spot.{Spot}
 use Rattle.instantiate.specs.inner.Bases.{node_base, HaveBases}
-use Rattle.instantiate.specs.inner.Listings.{HasKey, IsListing, outlines_in, keys_for}
+use Rattle.instantiate.specs.inner.Listings.{IsListing, outlines_in, keys_for}
 use Rattle.instantiate.specs.inner.Spots.{saturated, spot_of, size_at, sentence_size, stage_size, size_before}
 use Rattle.instantiate.specs.inner.Steps.{step_of, index_along}
 use Rattle.instantiate.proofs.AboveKeys.{stage_low}

@@ -1,8 +1,6 @@
 -- What the code keeps of sentences while it lists their clauses.
 use Rattle.std.specs.Prelude.{◌≡◌, ℕ, true, ◌+◌, ◌-◌, ◌≤◌, List, [], ◌∷◌, length, map, take, Some, slice_get, unwrap_or, option_and_then, All}
 use Rattle.std.specs.List.{flat_map}
-use Rattle.lint_core.specs.Database.{below}
-use Rattle.sort_formula.specs.declared.formula.Atom.{Atom}
 use Rattle.sort_formula.specs.declared.formula.Formula.{Formula}
 use Rattle.sort_formula.specs.declared.formula.Formula.TheOpen.{Formula-F}
 use Rattle.sort_formula.specs.Sentences.{is_sentence}

@@ -1,5 +1,5 @@
 -- How many clauses each node has, and how many stand before it.
-use Rattle.std.specs.Prelude.{◌≡◌, ℕ, ◌+◌, ◌-◌, ◌^◌, ◌<◌, nat_eq, List, length, map, min, take, Some, slice_get, slice_index, if◌then◌else◌}
+use Rattle.std.specs.Prelude.{◌≡◌, ℕ, ◌+◌, ◌-◌, ◌^◌, ◌<◌, nat_eq, List, length, min, take, Some, slice_get, slice_index, if◌then◌else◌}
 use Rattle.std.specs.List.{sum_by}
 use Rattle.lint_core.specs.Database.{below}
 use Rattle.sorted_skolem.specs.declared.term.RowTerm.{RowTerm}

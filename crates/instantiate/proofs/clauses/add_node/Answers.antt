@@ -1,4 +1,4 @@
-use Rattle.std.proofs.Common.{◌≡◌, ◌∙◌, ap, sym, refl, subst, length, List, ℕ}
+use Rattle.std.proofs.Common.{◌∙◌, ap, sym, refl, subst, length, List, ℕ}
 use Rattle.std.proofs.lemmas.Option.{slice_get_read}
 use Rattle.std.specs.Prelude.{slice_get}
 use Rattle.sorted_skolem.specs.Terms.{term_lists}

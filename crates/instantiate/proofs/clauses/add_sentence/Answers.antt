@@ -1,4 +1,4 @@
-use Rattle.std.proofs.Common.{◌≡◌, ◌∙◌, ◌+◌, ◌++◌, ap, sym, map, List, ℕ}
+use Rattle.std.proofs.Common.{◌∙◌, ◌+◌, ◌++◌, ap, sym, map, List, ℕ}
 use Rattle.std.proofs.lemmas.List.{take-map}
 use Rattle.sorted_skolem.specs.Preorder.{Node}
 use Rattle.instantiate.specs.declared.spots.Spot.{Spot}

@@ -1,4 +1,4 @@
-use Rattle.std.proofs.Common.{◌≡◌, ◌∙◌, ◌++◌, ap, sym, map, List}
+use Rattle.std.proofs.Common.{◌∙◌, ◌++◌, ap, sym, map, List}
 use Rattle.std.specs.Prelude.{slice_get}
 use Rattle.instantiate.specs.declared.outline.FlatNode.{FlatNode}
 use Rattle.instantiate.specs.inner.Flat.{node_of}

@@ -1,4 +1,4 @@
-use Rattle.std.proofs.Common.{◌≡◌, ◌∙◌, [], ap, sym, subst, length, map, List, ℕ}
+use Rattle.std.proofs.Common.{◌∙◌, [], ap, sym, subst, length, map, List, ℕ}
 use Rattle.sort_formula.specs.declared.formula.Formula.{out-Formula}
 use Rattle.instantiate.specs.declared.outline.Binder.{Binder}
 use Rattle.instantiate.specs.Ground.{rows_along}

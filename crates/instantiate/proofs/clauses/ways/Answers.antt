@@ -1,4 +1,4 @@
-use Rattle.std.proofs.Common.{◌≡◌, ◌∙◌, ◌++◌, ap, sym, length, List}
+use Rattle.std.proofs.Common.{◌∙◌, ◌++◌, ap, sym, length, List}
 use Rattle.std.specs.Prelude.{Option, replicate}
 use Rattle.sort_formula.specs.declared.formula.Formula.{Formula, out-Formula}
 use Rattle.ground_theory.specs.declared.literal.Literal.{Literal}

@@ -1,4 +1,4 @@
-use Rattle.std.proofs.Common.{◌≡◌, ◌∙◌, ◌+◌, ◌++◌, ◌∷◌, [], sym, subst, take, List, ℕ}
+use Rattle.std.proofs.Common.{◌++◌, ◌∷◌, [], sym, subst, take, List, ℕ}
 use Rattle.instantiate.specs.declared.spots.Spot.{Spot}
 use Rattle.instantiate.specs.inner.Spots.{AreBases, AreMoved}
 use Rattle.instantiate.specs.inner.Bases.{ArePassed, HaveBases}

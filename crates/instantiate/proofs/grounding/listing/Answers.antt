@@ -1,7 +1,5 @@
-use Rattle.std.proofs.Common.{◌≡◌, ◌∙◌, ◌+◌, ◌<◌, ◌≤◌, ◌-◌, ◌^◌, ap, min, map, subst, length, arith, List, ℕ}
+use Rattle.std.proofs.Common.{◌≡◌, ◌∙◌, ◌+◌, ◌≤◌, ap, map, subst, length, arith, List, ℕ}
 use Rattle.lint_core.specs.Database.{below}
-use Rattle.sorted_skolem.specs.Preorder.{outlines_of}
-use Rattle.instantiate.specs.Ground.{keys}
 use Rattle.instantiate.specs.declared.outline.FlatNode.{FlatNode}
 use Rattle.instantiate.specs.declared.spots.Spot.{Spot}
 use Rattle.instantiate.specs.inner.Bases.{HaveBases}

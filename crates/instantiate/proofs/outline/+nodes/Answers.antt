@@ -1,6 +1,5 @@
-use Rattle.std.proofs.Common.{◌≡◌, ◌∙◌, ◌+◌, ◌++◌, ap, sym, subst, length, map, OnOk, List, suc, arith, add-one}
+use Rattle.std.proofs.Common.{◌≡◌, ◌∙◌, ap, sym, subst, length, map, OnOk, List, suc, arith, add-one}
 use Rattle.std.specs.Prelude.{if◌then◌else◌}
-use Rattle.sort_formula.specs.declared.formula.Formula.{Formula}
 use Rattle.sorted_skolem.specs.Preorder.{Node}
 use Rattle.instantiate.specs.inner.Flat.{node_of, quantifier_of}
 use Rattle.instantiate.proofs.Outlining.{and_then, or_then, exists_then, forall_then, longer, rest_room, ways_more, part_more}

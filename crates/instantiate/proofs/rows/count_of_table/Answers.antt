@@ -1,4 +1,4 @@
-use Rattle.std.proofs.Common.{◌≡◌, ◌∙◌, ◌+◌, ◌++◌, ◌∷◌, [], ap, sym, length, get_or, arith, List, ℕ}
+use Rattle.std.proofs.Common.{◌∙◌, ◌∷◌, [], ap, sym, length, arith}
 use Rattle.std.proofs.lemmas.List.{length-append}
 use Rattle.std.specs.List.{filter}
 use Rattle.lint_core.specs.Database.{below}

@@ -1,5 +1,4 @@
-use Rattle.std.proofs.Common.{◌≡◌, ◌∙◌, ◌+◌, ◌++◌, ◌∷◌, [], sym, ap, ap₂, map, take, append-nil, List, ℕ}
-use Rattle.std.proofs.lemmas.Option.{slice_get_read}
+use Rattle.std.proofs.Common.{◌∙◌}
 use Rattle.instantiate.proofs.TermLists.{extended_more}
 use Rattle.instantiate.proofs.rows.extended.Goals as goal
 

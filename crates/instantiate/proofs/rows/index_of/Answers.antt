@@ -1,4 +1,4 @@
-use Rattle.std.proofs.Common.{◌≡◌, ◌∙◌, ◌-◌, ◌^◌, sym, ap, refl, min, get_or, length, arith, List, ℕ}
+use Rattle.std.proofs.Common.{◌∙◌, ◌-◌, ◌^◌, ap, refl, min, get_or, length, arith, List, ℕ}
 use Rattle.std.proofs.lemmas.List.{drop_all}
 use Rattle.std.proofs.lemmas.Option.{slice_get_read, slice_get_past}
 use Rattle.instantiate.specs.inner.Steps.{index_along}
