@@ -2,3 +2,14 @@ pub mod Numbering
 pub mod Layers
 pub mod Hung
 pub mod Sampled
+pub mod Flattening
+pub mod TermLists
+pub mod Counting
+pub mod Positions
+pub mod Outlining
+pub mod AboveKeys
+pub mod Readiness
+pub mod Listed
+pub mod Adding
+pub mod Formed
+pub mod Guards

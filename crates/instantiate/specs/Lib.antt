@@ -3,3 +3,5 @@ pub mod Ground
 pub mod Cases
 pub mod Hanging
 pub mod Examples
+pub mod Stops
+pub mod inner

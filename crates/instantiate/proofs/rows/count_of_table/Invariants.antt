@@ -1,0 +1,8 @@
+use Rattle.std.proofs.Common.{◌≡◌, length}
+use Rattle.std.specs.List.{filter}
+use Rattle.lint_core.specs.Database.{below}
+use Rattle.sorted_skolem.specs.Terms.{is_of_table}
+use Rattle.instantiate.proofs.rows.count_of_table.Given as goal
+
+abbrev pub invariant-loop-number : goal.invariant-loop-number
+invariant-loop-number l = l.count ≡ length (filter (is_of_table l.terms l.table) (below l.number))
