@@ -9,8 +9,8 @@
 //! in their order) and `specs/Stops` (what is said of the answers that are not Ok). `specs/inner`
 //! speaks of the steps in between, and no public clause cites it.
 //!
-//! Wrong bodies that the contracts let through: those that answer `NoMemory` though there is
-//! memory, since no clause can say when memory ends: the tests show that both calls succeed.
+//! Of wrong bodies the contracts let through only those that answer `NoMemory` though there is
+//! memory, since no clause can say when memory ends.
 #![tactic(auto)]
 
 mod asks;
