@@ -1,0 +1,2 @@
+mod CountsWithin
+mod Asking
