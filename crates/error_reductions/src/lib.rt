@@ -7,7 +7,12 @@
 //! memory, since no clause can say when memory ends.
 #![tactic(auto)]
 
+mod columns;
 mod counting;
+mod distinct;
+mod joined;
 mod listing;
+mod scopes;
+mod selected;
 
 pub use listing::questions;

@@ -1,0 +1,59 @@
+-- Parts of the counter sentences, by what the code knows of a column. Nothing here has to be believed: no public
+-- contract says it.
+use Rattle.std.specs.Prelude.{ℤ, pos, neg_ℤ, ◌-ℤ◌, ℕ, ◌+◌, ◌-◌, Bool, true, false, not, List, [], ◌∷◌, Option, Some, None, if◌then◌else◌}
+use Rattle.lint_core.specs.declared.database.Value.{Value}
+use Rattle.lint_core.specs.declared.database.Value.TheVariants as value
+use Rattle.sort_formula.specs.declared.building.Cell.{Cell}
+use Rattle.sort_formula.specs.declared.formula.Atom.TheVariants as atom
+use Rattle.sort_formula.specs.declared.formula.Formula.{Formula}
+use Rattle.sort_formula.specs.declared.formula.Formula.TheVariants as f
+use Rattle.sort_formula.specs.declared.formula.Side.{Side}
+use Rattle.sort_formula.specs.declared.formula.Side.TheVariants as side
+use Rattle.lint_core.specs.declared.condition.Cond.{Cond}
+use Rattle.lint_core.specs.declared.query.Query.{Query}
+use Rattle.lint_core.specs.declared.schema.Table.{Table}
+use Rattle.lint_core.specs.Naming.{names}
+use Rattle.sort_formula.specs.Counters.{count, fits_at, table_of_entry}
+use Rattle.sort_formula.specs.Cells.{le, not_distinct_cells}
+use Rattle.sort_formula.specs.Negated.{negated}
+use Rattle.error_reductions.specs.declared.columns.Column.{Column}
+
+abbrev pub null_of : Cell → Formula
+null_of cell = f.Atom (atom.IsNull cell.row cell.column)
+
+abbrev pub side_of_cell : Cell → Side
+side_of_cell cell = side.Cell cell.row cell.column
+
+-- the two columns are not distinct
+abbrev pub alike : Column → Column → Formula
+alike one other = not_distinct_cells one.texts (null_of one.cell) (null_of other.cell) (side_of_cell one.cell) (side_of_cell other.cell)
+
+-- the cell is NULL, or has another number, or another text
+abbrev pub another_number : Cell → ℤ → Formula
+another_number cell v = f.Or (null_of cell ∷ le (side_of_cell cell) side.Zero (v -ℤ pos 1) ∷ le side.Zero (side_of_cell cell) (neg_ℤ v -ℤ pos 1) ∷ [])
+
+abbrev pub another_text : Cell → List ℕ → Formula
+another_text cell text = f.Or (null_of cell ∷ f.Atom (atom.TextNe (side_of_cell cell) (side.Text text)) ∷ [])
+
+-- that the column has another value, where that is not sure
+abbrev pub another_value : Column → Value → Option Formula
+another_value column value.Null = Some (f.Atom (atom.NotNull column.cell.row column.cell.column))
+another_value column (value.Int v) = if column.texts then None else Some (another_number column.cell v)
+another_value column (value.Text text) = if column.texts then Some (another_text column.cell text) else None
+
+-- one of the two holds, and the other does not
+abbrev pub exactly_one : Formula → Formula → Formula
+exactly_one one other = f.Or (f.And (one ∷ negated other ∷ []) ∷ f.And (other ∷ negated one ∷ []) ∷ [])
+
+-- the condition names the entry, or (with false) it does not
+abbrev pub is_chosen : Bool → ℕ → Cond → Bool
+is_chosen true entry cond = names entry cond
+is_chosen false entry cond = not (names entry cond)
+
+-- two rows of the entry satisfy all conditions that name it
+abbrev pub two_fit : List Table → Query → ℕ → Formula
+two_fit schema query entry =
+    let last = count schema query - 1 in
+    let next = count schema query in
+    f.Exists (table_of_entry schema query entry) (f.Exists (table_of_entry schema query entry)
+    (f.And (fits_at schema query entry last (next + 1) ∷ fits_at schema query entry next (next + 1) ∷ f.Atom (atom.Other last next) ∷ [])))
