@@ -1,12 +1,14 @@
 //! E2: the counter sentence that speaks of DISTINCT.
 ghost use Rattle.std.specs.Prelude.{◌≡◌, ◌≤◌, ◌+◌, ◌∷◌, ◌++◌, [], true, length, map, if◌then◌else◌, IfOk, OnOk};
 ghost use Rattle.std.specs.List.{filter};
-ghost use Rattle.lint_core.specs.Asked.{main_entries};
+ghost use Rattle.lint_core.specs.Asked.{main_condition, main_entries};
 ghost use Rattle.lint_core.specs.Fits.{query_fits, tables_of};
 ghost use Rattle.lint_core.specs.Subqueries.{is_column};
 ghost use Rattle.lint_core.specs.declared.query.Item.{Item as Selected};
 ghost use Rattle.sort_formula.specs.Counters.{distinct_counter, not_distinct, sentence_of};
 ghost use Rattle.sort_formula.specs.Sides.{from_number};
+ghost use Rattle.truth_formula.specs.Scopes.{CanStand};
+ghost use Rattle.error_reductions.specs.inner.Parts.{twice_at};
 
 use crate::columns::column_of;
 use crate::joined::some_other;
@@ -73,6 +75,47 @@ fn twice_scope(alloc: Global, query: &Query, first: u32) -> Result<Scope, NoMemo
     main_scope(alloc, query, from_number(alloc, first, count)?, count + count)
 }
 
+/// WHERE is true of both rows, they differ, and they give rows that are not distinct.
+fn twice_body(
+    alloc: Global,
+    schema: &Schema,
+    query: &Query,
+    one: &Scope,
+    two: &Scope,
+    count: u32,
+) -> Result<Formula, NoMemory>
+    requires one { CanStand schema.now (main_condition query.now) one.now }
+    requires two { CanStand schema.now (main_condition query.now) two.now }
+    requires few { count ≤ 16 }
+    ensures { IfOk result (λ formula. formula
+        ≡ twice_at schema.now query.now one.now two.now count) }
+{
+    let mut parts = Items::new(alloc);
+    parts.push(is_true(alloc, schema, &query.block.cond, one)?)?;
+    parts.push(is_true(alloc, schema, &query.block.cond, two)?)?;
+    parts.push(some_other(alloc, 0, count, count)?)?;
+    push_all_alike(alloc, schema, one, two, query.items.as_slice(), &mut parts)?;
+    Ok(Formula::And(parts))
+}
+
+/// The tables of the main entries, twice.
+fn own_twice(alloc: Global, query: &Query) -> Result<Items<u32>, NoMemory>
+    ensures { IfOk result (λ tables. tables
+        ≡ tables_of (main_entries query.now) ++ tables_of (main_entries query.now)) }
+{
+    let own = own_tables(alloc, query)?;
+    let mut lead = own_tables(alloc, query)?;
+    push_numbers(&mut lead, own.as_slice())?;
+    Ok(lead)
+}
+
+fn entry_count(query: &Query) -> u32
+    requires { length (main_entries query.now) ≤ 16 }
+    ensures { result ≡ length (main_entries query.now) }
+{
+    query.block.entries.as_slice().len() as u32
+}
+
 /// E2: two different bindings, at which WHERE is true, give rows that are not distinct.
 pub(crate) fn twice_one_row(
     alloc: Global,
@@ -85,16 +128,10 @@ pub(crate) fn twice_one_row(
 {
     parts_of_queries_fit();
     queries_have_room();
-    let count = query.block.entries.as_slice().len() as u32;
+    let count = entry_count(query);
     let one = twice_scope(alloc, query, 0)?;
     let two = twice_scope(alloc, query, count)?;
-    let mut parts = Items::new(alloc);
-    parts.push(is_true(alloc, schema, &query.block.cond, &one)?)?;
-    parts.push(is_true(alloc, schema, &query.block.cond, &two)?)?;
-    parts.push(some_other(alloc, 0, count, count)?)?;
-    push_all_alike(alloc, schema, &one, &two, query.items.as_slice(), &mut parts)?;
-    let own = own_tables(alloc, query)?;
-    let mut lead = own_tables(alloc, query)?;
-    push_numbers(&mut lead, own.as_slice())?;
-    exist_rows(alloc, lead.as_slice(), Formula::And(parts))
+    let body = twice_body(alloc, schema, query, &one, &two, count)?;
+    let lead = own_twice(alloc, query)?;
+    exist_rows(alloc, lead.as_slice(), body)
 }

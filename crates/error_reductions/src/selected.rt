@@ -121,7 +121,8 @@ pub(crate) fn items_differ(
     let one = item_column(schema, query, &scope, item);
     let two = item_column(schema, query, &scope, other);
     let alike = not_distinct(alloc, one, two)?;
-    some_row_with(alloc, schema, query, negate(alloc, &alike)?)
+    let differ = negate(alloc, &alike)?;
+    some_row_with(alloc, schema, query, differ)
 }
 
 /// The cell is NULL, or has another number.

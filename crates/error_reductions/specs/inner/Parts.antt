@@ -1,6 +1,6 @@
 -- Parts of the counter sentences, by what the code knows of a column. Nothing here has to be believed: no public
 -- contract says it.
-use Rattle.std.specs.Prelude.{ℤ, pos, neg_ℤ, ◌-ℤ◌, ℕ, ◌+◌, ◌-◌, Bool, true, false, not, List, [], ◌∷◌, Option, Some, None, if◌then◌else◌}
+use Rattle.std.specs.Prelude.{ℤ, pos, neg_ℤ, ◌-ℤ◌, ℕ, ◌+◌, ◌-◌, Bool, true, false, not, List, [], ◌∷◌, map, Option, Some, None, if◌then◌else◌}
 use Rattle.lint_core.specs.declared.database.Value.{Value}
 use Rattle.lint_core.specs.declared.database.Value.TheVariants as value
 use Rattle.sort_formula.specs.declared.building.Cell.{Cell}
@@ -16,6 +16,16 @@ use Rattle.lint_core.specs.Naming.{names}
 use Rattle.sort_formula.specs.Counters.{count, fits_at, table_of_entry}
 use Rattle.sort_formula.specs.Cells.{le, not_distinct_cells}
 use Rattle.sort_formula.specs.Negated.{negated}
+use Rattle.std.specs.List.{filter}
+use Rattle.lint_core.specs.declared.query.Item.{Item}
+use Rattle.lint_core.specs.declared.query.Query.{Query}
+use Rattle.lint_core.specs.declared.schema.Table.{Table}
+use Rattle.lint_core.specs.declared.scope.Scope.{Scope}
+use Rattle.lint_core.specs.Asked.{main_condition}
+use Rattle.lint_core.specs.Subqueries.{is_column}
+use Rattle.sort_formula.specs.Counters.{not_distinct, some_other}
+use Rattle.sort_formula.specs.Sides.{from_number}
+use Rattle.sort_formula.specs.Translation.{is_true_formula}
 use Rattle.error_reductions.specs.declared.columns.Column.{Column}
 
 abbrev pub null_of : Cell → Formula
@@ -57,3 +67,13 @@ two_fit schema query entry =
     let next = count schema query in
     f.Exists (table_of_entry schema query entry) (f.Exists (table_of_entry schema query entry)
     (f.And (fits_at schema query entry last (next + 1) ∷ fits_at schema query entry next (next + 1) ∷ f.Atom (atom.Other last next) ∷ [])))
+
+-- WHERE is true in both scopes, two rows of the variables from 0 and from n on differ, and no item is distinct
+abbrev pub twice_at : List Table → Query → Scope → Scope → ℕ → Formula
+twice_at schema query one two n =
+    f.And (
+    is_true_formula schema (main_condition query) one
+    ∷ is_true_formula schema (main_condition query) two
+    ∷ some_other (from_number 0 n) (from_number n n)
+    ∷ map (λ (i : Item). not_distinct schema one i.term two i.term) (filter (λ (i : Item). is_column i.term) query.items)
+    )
