@@ -97,9 +97,9 @@ twice_is schema query n one two body count one_is two_is is =
     let second = λ (m : ℕ). level_scope query (from_number m m) (m + m) in
     let first_same : one ≡ at (length (tables_of (main_entries query))) = one_is ∙ ap at (sym own) in
     let second_same : two ≡ second (length (tables_of (main_entries query))) =
-        two_is
-        ∙ (ap (λ (m : ℕ). level_scope query (from_number m (length (main_entries query))) (length (main_entries query) + length (main_entries query))) count
-        ∙ ap second (sym own))
+    two_is
+    ∙ (ap (λ (m : ℕ). level_scope query (from_number m (length (main_entries query))) (length (main_entries query) + length (main_entries query))) count
+    ∙ ap second (sym own))
     in
     is
     ∙ (ap (λ (s : Scope). twice_at schema query s two n) first_same

@@ -32,7 +32,10 @@ fn holds_texts(schema: &Schema, scope: &Scope, term: &Term) -> bool
     ensures { result ≡ is_text_term schema.now scope.now term.now }
 {
     let levels = Levels::Given(scope.tables.as_slice());
-    matches!(term.kind(schema.tables().as_slice(), &levels), Some(Kind::Text))
+    matches!(
+        term.kind(schema.tables().as_slice(), &levels),
+        Some(Kind::Text)
+    )
 }
 
 /// The column that a term is, if it is one.

@@ -72,7 +72,12 @@ fn twice_scope(alloc: Global, query: &Query, first: u32) -> Result<Scope, NoMemo
     }) }
 {
     let count = query.block.entries.as_slice().len() as u32;
-    main_scope(alloc, query, from_number(alloc, first, count)?, count + count)
+    main_scope(
+        alloc,
+        query,
+        from_number(alloc, first, count)?,
+        count + count,
+    )
 }
 
 /// WHERE is true of both rows, they differ, and they give rows that are not distinct.

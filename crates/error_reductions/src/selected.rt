@@ -50,11 +50,7 @@ pub(crate) fn where_formula(
 }
 
 /// E1: there is a row.
-pub(crate) fn some_row(
-    alloc: Global,
-    schema: &Schema,
-    query: &Query,
-) -> Result<Formula, NoMemory>
+pub(crate) fn some_row(alloc: Global, schema: &Schema, query: &Query) -> Result<Formula, NoMemory>
     requires { query_fits schema.now query.now ≡ true }
     ensures { IfOk result (λ formula. formula
         ≡ sentence_of (of_own schema.now query.now (where_formula schema.now query.now))) }
@@ -158,11 +154,7 @@ fn another_text(alloc: Global, cell: Cell, text: &Str) -> Result<Formula, NoMemo
 }
 
 /// The column has another value. `None` where each of its values is another.
-fn another_value(
-    alloc: Global,
-    column: Column,
-    given: &Value,
-) -> Result<Option<Formula>, NoMemory>
+fn another_value(alloc: Global, column: Column, given: &Value) -> Result<Option<Formula>, NoMemory>
     ensures { IfOk result (λ found. found ≡ another_value column given.now) }
 {
     match given {

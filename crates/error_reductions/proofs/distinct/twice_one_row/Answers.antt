@@ -50,7 +50,7 @@ returns c =
     let schema = c.args.schema.now in
     let query = c.args.query.now in
     let body : c.in_ok-body.body ≡ (distinct_counter schema query).body =
-        twice_is schema query c.entry_count-count.result c.in_ok-one.one c.in_ok-two.two c.in_ok-body.body c.entry_count-count.ensures c.in_ok-one.ensures c.in_ok-two.ensures c.in_ok-body.ensures
+    twice_is schema query c.entry_count-count.result c.in_ok-one.one c.in_ok-two.two c.in_ok-body.body c.entry_count-count.ensures c.in_ok-one.ensures c.in_ok-two.ensures c.in_ok-body.ensures
     in
     IfOk-weaker c.exist_rows.result (λ formula. formula ≡ exist_rows c.as_slice.result.now c.in_ok-body.body) (λ formula. formula ≡ sentence_of (distinct_counter schema query))
     (λ formula is. is ∙ ap₂ exist_rows (c.as_slice.ensures ∙ c.in_ok-lead.ensures) body)

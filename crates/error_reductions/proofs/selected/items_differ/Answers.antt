@@ -19,9 +19,9 @@ returns c =
     let here = c.in_ok-scope.scope in
     let same : here ≡ scope schema query = c.in_ok-scope.ensures ∙ sym (own_is schema query) in
     let alike : c.in_ok-alike.alike ≡ not_distinct schema (scope schema query) a (scope schema query) b =
-        c.in_ok-alike.ensures
-        ∙ (columns_alike schema here here a b c.item_column-one.result c.item_column-two.result c.item_column-one.ensures c.item_column-two.ensures
-        ∙ ap (λ (s : Scope). not_distinct schema s a s b) same)
+    c.in_ok-alike.ensures
+    ∙ (columns_alike schema here here a b c.item_column-one.result c.item_column-two.result c.item_column-one.ensures c.item_column-two.ensures
+    ∙ ap (λ (s : Scope). not_distinct schema s a s b) same)
     in
     let differ : c.in_ok-differ.differ ≡ negated (not_distinct schema (scope schema query) a (scope schema query) b) = c.in_ok-differ.ensures ∙ ap negated alike in
     let sentence = λ (more : Formula). sentence_of (where_with schema query (more ∷ [])) in
