@@ -1,5 +1,5 @@
 -- The condition of WHERE stands in a scope of the main entries, and which scope that is.
-use Rattle.std.proofs.Common.{◌≡◌, ◌∙◌, refl, sym, ap, ap₂, ℕ, ◌+◌, ◌*◌, ◌^◌, ◌<◌, ◌≤◌, Bool, true, ◌&&◌, List, [], ◌∷◌, ◌++◌, map, length, nat_lt, arith}
+use Rattle.std.proofs.Common.{◌≡◌, ◌∙◌, sym, ap, ap₂, ℕ, ◌+◌, ◌*◌, ◌^◌, ◌<◌, ◌≤◌, Bool, true, ◌&&◌, List, [], ◌∷◌, length, nat_lt, arith}
 use Rattle.std.proofs.lemmas.Bool.{and_parts, leb-true}
 use Rattle.std.proofs.lemmas.List.{append-nil, length-map}
 use Rattle.std.specs.List.{list_all}
@@ -10,7 +10,7 @@ use Rattle.lint_core.specs.declared.condition.Entry.{Entry}
 use Rattle.lint_core.specs.declared.query.Query.{Query}
 use Rattle.lint_core.specs.declared.schema.Table.{Table}
 use Rattle.lint_core.specs.declared.scope.Scope.{Scope}
-use Rattle.lint_core.specs.Asked.{main_condition, main_entries}
+use Rattle.lint_core.specs.Asked.{main_entries}
 use Rattle.lint_core.specs.Fits.{Meaning, BlockMeaning, fits_step, block_step, block_fits, cond_fits, count_conditions, main_tables, query_fits, selection_fits, tables_of}
 use Rattle.question_truths.specs.Room.{entries_in}
 use Rattle.lint_core.specs.declared.condition.Term.{Term}
@@ -23,7 +23,7 @@ use Rattle.truth_formula.specs.Scopes.{CanStand, count_entries}
 use Rattle.error_reductions.specs.declared.columns.Column.{Column}
 use Rattle.error_reductions.specs.inner.Columns.{IsColumn}
 use Rattle.error_reductions.specs.inner.Parts.{alike, null_of, side_of_cell, twice_at}
-use Rattle.error_reductions.proofs.Variables.{AllBelow, entries_first, length_from, numbers_below}
+use Rattle.error_reductions.proofs.Variables.{AllBelow, length_from, numbers_below}
 
 pub few_entries : (schema : List Table) (query : Query) → query_fits schema query ≡ true → length (main_entries query) ≤ 16
 few_entries schema query fits =

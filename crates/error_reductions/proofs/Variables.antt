@@ -3,7 +3,6 @@ use Rattle.std.proofs.Common.{◌≡◌, ◌∙◌, refl, sym, ap, ap₂, ℕ, z
 use Rattle.std.proofs.lemmas.List.{append_assoc, drop_more, length-append, length-map, map-append}
 use Rattle.std.proofs.lemmas.List.Sums.{sum_by-cons}
 use Rattle.std.specs.List.{list_all, zip}
-use Rattle.std.specs.Prelude.{sum}
 use Rattle.lint_base.proofs.Lists.{all_append, true_below}
 use Rattle.lint_core.specs.Database.{below}
 use Rattle.question_truths.specs.Room.{entries_in}

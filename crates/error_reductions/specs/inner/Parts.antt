@@ -1,6 +1,6 @@
 -- Parts of the counter sentences, by what the code knows of a column. Nothing here has to be believed: no public
 -- contract says it.
-use Rattle.std.specs.Prelude.{ℤ, pos, neg_ℤ, ◌-ℤ◌, ℕ, ◌+◌, ◌-◌, Bool, true, false, not, List, [], ◌∷◌, map, Option, Some, None, if◌then◌else◌}
+use Rattle.std.specs.Prelude.{ℤ, pos, neg_ℤ, ◌-ℤ◌, ℕ, List, [], ◌∷◌, map, Option, Some, None, if◌then◌else◌}
 use Rattle.lint_core.specs.declared.database.Value.{Value}
 use Rattle.lint_core.specs.declared.database.Value.TheVariants as value
 use Rattle.sort_formula.specs.declared.building.Cell.{Cell}
@@ -9,17 +9,11 @@ use Rattle.sort_formula.specs.declared.formula.Formula.{Formula}
 use Rattle.sort_formula.specs.declared.formula.Formula.TheVariants as f
 use Rattle.sort_formula.specs.declared.formula.Side.{Side}
 use Rattle.sort_formula.specs.declared.formula.Side.TheVariants as side
-use Rattle.lint_core.specs.declared.condition.Cond.{Cond}
 use Rattle.lint_core.specs.declared.query.Query.{Query}
 use Rattle.lint_core.specs.declared.schema.Table.{Table}
-use Rattle.lint_core.specs.Naming.{names}
-use Rattle.sort_formula.specs.Counters.{count, fits_at, table_of_entry}
 use Rattle.sort_formula.specs.Cells.{le, not_distinct_cells}
-use Rattle.sort_formula.specs.Negated.{negated}
 use Rattle.std.specs.List.{filter}
 use Rattle.lint_core.specs.declared.query.Item.{Item}
-use Rattle.lint_core.specs.declared.query.Query.{Query}
-use Rattle.lint_core.specs.declared.schema.Table.{Table}
 use Rattle.lint_core.specs.declared.scope.Scope.{Scope}
 use Rattle.lint_core.specs.Asked.{main_condition}
 use Rattle.lint_core.specs.Subqueries.{is_column}
@@ -50,23 +44,6 @@ abbrev pub another_value : Column → Value → Option Formula
 another_value column value.Null = Some (f.Atom (atom.NotNull column.cell.row column.cell.column))
 another_value column (value.Int v) = if column.texts then None else Some (another_number column.cell v)
 another_value column (value.Text text) = if column.texts then Some (another_text column.cell text) else None
-
--- one of the two holds, and the other does not
-abbrev pub exactly_one : Formula → Formula → Formula
-exactly_one one other = f.Or (f.And (one ∷ negated other ∷ []) ∷ f.And (other ∷ negated one ∷ []) ∷ [])
-
--- the condition names the entry, or (with false) it does not
-abbrev pub is_chosen : Bool → ℕ → Cond → Bool
-is_chosen true entry cond = names entry cond
-is_chosen false entry cond = not (names entry cond)
-
--- two rows of the entry satisfy all conditions that name it
-abbrev pub two_fit : List Table → Query → ℕ → Formula
-two_fit schema query entry =
-    let last = count schema query - 1 in
-    let next = count schema query in
-    f.Exists (table_of_entry schema query entry) (f.Exists (table_of_entry schema query entry)
-    (f.And (fits_at schema query entry last (next + 1) ∷ fits_at schema query entry next (next + 1) ∷ f.Atom (atom.Other last next) ∷ [])))
 
 -- WHERE is true in both scopes, two rows of the variables from 0 and from n on differ, and no item is distinct
 abbrev pub twice_at : List Table → Query → Scope → Scope → ℕ → Formula
