@@ -1,0 +1,4 @@
+mod CountsWithin
+mod Asking
+mod Variables
+mod MainScope
