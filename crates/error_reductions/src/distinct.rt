@@ -121,12 +121,9 @@ fn entry_count(query: &Query) -> u32
     query.block.entries.as_slice().len() as u32
 }
 
-/// E2: two different bindings, at which WHERE is true, give rows that are not distinct.
-pub(crate) fn twice_one_row(
-    alloc: Global,
-    schema: &Schema,
-    query: &Query,
-) -> Result<Formula, NoMemory>
+/// The counter sentence of E2: two different bindings, at which WHERE is true, give rows that are
+/// not distinct. `NoMemory` where there is no memory for it.
+pub fn twice_one_row(alloc: Global, schema: &Schema, query: &Query) -> Result<Formula, NoMemory>
     requires { query_fits schema.now query.now ≡ true }
     ensures { IfOk result (λ formula. formula
         ≡ sentence_of (distinct_counter schema.now query.now)) }

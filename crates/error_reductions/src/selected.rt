@@ -49,8 +49,9 @@ pub(crate) fn where_formula(
     is_true(alloc, schema, &query.block.cond, &scope)
 }
 
-/// E1: there is a row.
-pub(crate) fn some_row(alloc: Global, schema: &Schema, query: &Query) -> Result<Formula, NoMemory>
+/// The counter sentence of E1: there is a row of each main entry at which WHERE is true.
+/// `NoMemory` where there is no memory for it.
+pub fn some_row(alloc: Global, schema: &Schema, query: &Query) -> Result<Formula, NoMemory>
     requires { query_fits schema.now query.now ≡ true }
     ensures { IfOk result (λ formula. formula
         ≡ sentence_of (of_own schema.now query.now (where_formula schema.now query.now))) }
@@ -74,8 +75,9 @@ fn some_row_with(
     some_own(alloc, query, both(alloc, chosen, more)?)
 }
 
-/// E8: the two entries have different rows.
-pub(crate) fn rows_differ(
+/// The counter sentence of E8: there is a row of each main entry at which WHERE is true, and the
+/// two entries have different rows. `NoMemory` where there is no memory for it.
+pub fn rows_differ(
     alloc: Global,
     schema: &Schema,
     query: &Query,
@@ -97,8 +99,9 @@ pub(crate) fn not_distinct(alloc: Global, one: Column, other: Column) -> Result<
     one.cell.not_distinct(alloc, other.cell, one.texts)
 }
 
-/// E4: the two items are distinct.
-pub(crate) fn items_differ(
+/// The counter sentence of E4: there is a row of each main entry at which WHERE is true, and the
+/// two items are distinct. `NoMemory` where there is no memory for it.
+pub fn items_differ(
     alloc: Global,
     schema: &Schema,
     query: &Query,
@@ -174,8 +177,9 @@ fn another_value(alloc: Global, column: Column, given: &Value) -> Result<Option<
     }
 }
 
-/// E3: the item has another value than this.
-pub(crate) fn item_differs(
+/// The counter sentence of E3: there is a row of each main entry at which WHERE is true, and the
+/// item has another value than this. `NoMemory` where there is no memory for it.
+pub fn item_differs(
     alloc: Global,
     schema: &Schema,
     query: &Query,
