@@ -140,7 +140,7 @@ module _ (clauses : List Clause) (frame : Frame) (p : Literal → Bool) (full : 
       let same : g.way ≡ w.0 = eqb-true g.way w.0 w.2 in
       literal_passes p clauses full g.clause c g.way l at (x.1 ∙ (ap Some w.1 ∙ ap (λ n. Some (Some n)) (sym same))) way all)
 
-  all_cited_pass : (gs : List Guard) (ls : List Literal) → literals_at clauses frame gs ≡ Some ls → list_all (is_chosen full) gs ≡ true → list_all p ls ≡ true
+  pub all_cited_pass : (gs : List Guard) (ls : List Literal) → literals_at clauses frame gs ≡ Some ls → list_all (is_chosen full) gs ≡ true → list_all p ls ≡ true
   all_cited_pass [] ls is chosen = subst (λ (ls : List Literal). list_all p ls ≡ true) (same_Some [] ls is) refl
   all_cited_pass (g ∷ gs) ls is chosen =
       let parts = and_parts (is_chosen full g) (list_all (is_chosen full) gs) chosen in

@@ -40,7 +40,7 @@ pub never_before_itself : (xs : Choices) → stands_before xs xs ≡ false
 never_before_itself [] = refl
 never_before_itself (x ∷ xs) = none_less (is_less x x) (is_equal x x) (stands_before xs xs) (never_less x) (never_before_itself xs)
 
-same_way : (x y : Option ℕ) → is_equal x y ≡ true → x ≡ y
+pub same_way : (x y : Option ℕ) → is_equal x y ≡ true → x ≡ y
 same_way None None is = refl
 same_way None (Some w) is = cc
 same_way (Some v) None is = cc

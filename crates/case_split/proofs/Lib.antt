@@ -2,3 +2,12 @@ pub mod Places
 pub mod Closed
 pub mod Counting
 pub mod Forcing
+pub mod Refuting
+pub mod Ordering
+pub mod Entries
+pub mod Firsts
+pub mod TakingWays
+pub mod Leaving
+pub mod Splitting
+pub mod Literals
+pub mod Going

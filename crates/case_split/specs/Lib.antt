@@ -3,4 +3,6 @@ pub mod Cases
 pub mod Trees
 pub mod Trails
 pub mod Answers
+pub mod Judgeable
+pub mod Fitting
 pub mod inner
