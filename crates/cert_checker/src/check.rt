@@ -6,28 +6,17 @@ ghost use Rattle.constraint_axioms.specs.declared.axiom.Axiom.{Axiom as Made};
 ghost use Rattle.sort_formula.specs.Certificate.{fact_of, accepts, first_wrong, wrong_step};
 ghost use Rattle.sort_formula.specs.Holds.{holds};
 ghost use Rattle.sort_formula.specs.Sentences.{formula_fits};
-ghost use Rattle.cert_checker.specs.declared.check.Checked.TheVariants as checked;
+ghost use Rattle.lint_core.specs.declared.run.Checked.TheVariants as checked;
 
 use crate::facts::Stated;
 use crate::run::Run;
 use constraint_axioms::{Axiom, axioms};
 use formula_laws::wrong_steps_are_numbered;
 use lint_base::NoMemory;
-use lint_core::{Schema, Step, Table};
+use lint_core::{Checked, Schema, Step, Table};
 use sort_formula::Sentence;
 use std::alloc::Global;
 use truth_laws::accepted_sentence_fails;
-
-/// What a check of a certificate comes to.
-#[derive(Clone, Copy, Debug, PartialEq, Eq)]
-pub enum Checked {
-    /// The steps refute the sentence.
-    Accepted,
-    /// The first step that is wrong, missing or left over. Steps count from 1.
-    Refused { step: u64 },
-    /// The certificate counts only together with one of an earlier question.
-    Needs { question: u32 },
-}
 
 /// The sentence and the axioms as facts.
 fn first_facts<'a>(

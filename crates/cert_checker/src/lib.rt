@@ -1,9 +1,9 @@
 //! The checker of certificates: whether steps refute a sentence.
 //!
-//! The layer above may use `check_sentence` and `Checked`. Which steps are accepted, and which one
-//! is the first wrong one, is `Certificate` of `sort_formula`, with `Facts`, `Rings` and `Chains`;
-//! what an accepted certificate shows is `accepted_sentence_fails` of `truth_laws`. No file of
-//! `specs/` here needs to be believed.
+//! The layer above may use `check_sentence`. Which steps are accepted, and which one is the first
+//! wrong one, is `Certificate` of `sort_formula`, with `Facts`, `Rings` and `Chains`; what an
+//! accepted certificate shows is `accepted_sentence_fails` of `truth_laws`. No file of `specs/`
+//! here needs to be believed.
 //!
 //! Of wrong bodies the contracts let through only those that answer `NoMemory` though there is
 //! memory, since no clause can say when memory ends: the tests show that certificates are judged.
@@ -19,7 +19,7 @@ mod paths;
 mod rings;
 mod run;
 
-pub use check::{Checked, check_sentence};
+pub use check::check_sentence;
 
 #[cfg(test)]
 mod tests;

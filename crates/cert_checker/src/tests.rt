@@ -1,7 +1,7 @@
 //! Small certificates by hand.
-use crate::{Checked, check_sentence};
+use crate::check_sentence;
 use lint_base::{Items, NoMemory, Str};
-use lint_core::{Column, Domain, Schema, Step, SumEdge, Table, Unit};
+use lint_core::{Checked, Column, Domain, Schema, Step, SumEdge, Table, Unit};
 use sort_formula::{Atom, Formula, Sentence, Side, exists};
 use std::alloc::Global;
 

@@ -38,6 +38,6 @@ pub use condition::{Block, Cond, Entry, Term};
 pub use database::{Binding, Counter, Database, KeyName, Points, Row, Truth, Value, Violation};
 pub use laws::first_form_is_tested;
 pub use query::{Item, Query, Question};
-pub use run::{Answer, QueryResult, QueryRun, Run};
+pub use run::{Answer, CheckRun, Checked, QueryResult, QueryRun, Run};
 pub use schema::{Column, Domain, ForeignKey, Key, Kind, Schema, Table, Unit};
 pub use scope::{Levels, Scope, number_at};

@@ -6,7 +6,7 @@ use Rattle.lint_core.specs.declared.database.Counter.{Counter}
 use Rattle.lint_core.specs.declared.query.Query.{Query}
 use Rattle.lint_core.specs.declared.query.Question.TheVariants.{Empty}
 use Rattle.lint_core.specs.declared.run.Answer.{Answer}
-use Rattle.lint_core.specs.declared.run.Answer.TheVariants.{Always, NotAlways}
+use Rattle.lint_core.specs.declared.run.Answer.TheVariants.{Always, NotAlways, Moot, Blocked, CyclicKeys, CyclicNesting, Large, Spent}
 use Rattle.lint_core.specs.declared.schema.Table.{Table}
 use Rattle.lint_core.specs.Meets.{meets}
 use Rattle.lint_core.specs.Question.{refutes, HoldsAlways}
@@ -32,3 +32,9 @@ IsRightAnswer schema query query_number question_number (Always cert) = IsCertif
 IsRightAnswer schema query query_number question_number (NotAlways []) = ⊥
 IsRightAnswer schema query query_number question_number (NotAlways (counter ∷ [])) = IsRefuted schema query counter
 IsRightAnswer schema query query_number question_number (NotAlways (counter ∷ other ∷ counters)) = ⊥
+IsRightAnswer schema query query_number question_number Moot = ⊥
+IsRightAnswer schema query query_number question_number (Blocked by) = ⊥
+IsRightAnswer schema query query_number question_number (CyclicKeys cycle counter key) = ⊥
+IsRightAnswer schema query query_number question_number (CyclicNesting cycle) = ⊥
+IsRightAnswer schema query query_number question_number (Large rows nodes) = ⊥
+IsRightAnswer schema query query_number question_number (Spent tried) = ⊥
