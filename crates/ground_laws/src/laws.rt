@@ -1,0 +1,33 @@
+//! What `search` asks of a problem. The functions call another law and do nothing else: each
+//! contract is a law about the definitions in the `specs/` of the crates below.
+ghost use Rattle.std.specs.Prelude.{◌≡◌, true, List};
+ghost use Rattle.lint_core.specs.declared.schema.Table.{Table};
+ghost use Rattle.ground_theory.specs.Forward.{are_forward};
+ghost use Rattle.case_split.specs.Fitting.{are_fit, have_few_ways};
+ghost use Rattle.case_split.specs.Judgeable.{is_frame};
+ghost use Rattle.instantiate.specs.declared.problem.Problem.{Problem};
+ghost use Rattle.ground_laws.specs.Grounded.{IsGrounded};
+
+use instantiate::clauses_hang_together;
+
+/// The row terms of a problem are of tables of the schema, each literal compares cells of one
+/// kind that are there, by a bound of moderate size, and no clause has 2^32 ways: this is what
+/// `search` asks, but for the number of clauses.
+pub fn problems_can_be_searched()
+    ensures frame { (schema : List Table) (problem : Problem) → IsGrounded schema problem
+        → is_frame problem.frame ≡ true }
+    ensures fitting { (schema : List Table) (problem : Problem) → IsGrounded schema problem
+        → are_fit problem.frame problem.clauses ≡ true }
+    ensures ways { (schema : List Table) (problem : Problem) → IsGrounded schema problem
+        → have_few_ways problem.clauses ≡ true }
+{
+    clauses_hang_together();
+}
+
+/// Each guard of a problem's clauses names an earlier clause.
+pub fn guards_are_earlier()
+    ensures { (schema : List Table) (problem : Problem) → IsGrounded schema problem
+        → are_forward problem.clauses ≡ true }
+{
+    clauses_hang_together();
+}
