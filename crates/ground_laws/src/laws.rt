@@ -1,11 +1,14 @@
 //! What `search` asks of a problem. The functions call another law and do nothing else: each
 //! contract is a law about the definitions in the `specs/` of the crates below.
-ghost use Rattle.std.specs.Prelude.{◌≡◌, true, List};
+ghost use Rattle.std.specs.Prelude.{◌≡◌, ℕ, true, List, Some, slice_get};
 ghost use Rattle.lint_core.specs.declared.schema.Table.{Table};
+ghost use Rattle.sort_formula.specs.declared.formula.Formula.{Formula};
+ghost use Rattle.sort_formula.specs.Sentences.{is_sentence};
 ghost use Rattle.ground_theory.specs.Forward.{are_forward};
 ghost use Rattle.case_split.specs.Fitting.{are_fit, have_few_ways};
 ghost use Rattle.case_split.specs.Judgeable.{is_frame};
 ghost use Rattle.instantiate.specs.declared.problem.Problem.{Problem};
+ghost use Rattle.instantiate.specs.Cases.{IsProblem};
 ghost use Rattle.ground_laws.specs.Grounded.{IsGrounded};
 
 use instantiate::clauses_hang_together;
@@ -24,9 +27,12 @@ pub fn problems_can_be_searched()
     clauses_hang_together();
 }
 
-/// Each guard of a problem's clauses names an earlier clause.
+/// Where each formula of a problem is a sentence, each guard of its clauses names an earlier
+/// clause.
 pub fn guards_are_earlier()
-    ensures { (schema : List Table) (problem : Problem) → IsGrounded schema problem
+    ensures { (schema : List Table) (problem : Problem) → IsProblem schema problem
+        → ((sentence : ℕ) (formula : Formula)
+        → slice_get problem.sentences sentence ≡ Some formula → is_sentence formula ≡ true)
         → are_forward problem.clauses ≡ true }
 {
     clauses_hang_together();
