@@ -2,3 +2,4 @@ pub mod Parts
 pub mod Standing
 pub mod Literals
 pub mod Searched
+pub mod Orders

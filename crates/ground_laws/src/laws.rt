@@ -1,9 +1,11 @@
-//! What `search` asks of a problem. The functions call another law and do nothing else: each
-//! contract is a law about the definitions in the `specs/` of the crates below.
+//! What `search` asks of a problem, and that a problem has one order. The functions call another
+//! law or do nothing: each contract is a law about the definitions in the `specs/` of the crates
+//! below.
 ghost use Rattle.std.specs.Prelude.{◌≡◌, ℕ, true, List, Some, slice_get};
 ghost use Rattle.lint_core.specs.declared.schema.Table.{Table};
 ghost use Rattle.sort_formula.specs.declared.formula.Formula.{Formula};
 ghost use Rattle.sort_formula.specs.Sentences.{is_sentence};
+ghost use Rattle.sorted_skolem.specs.Graph.{IsOrder};
 ghost use Rattle.ground_theory.specs.Forward.{are_forward};
 ghost use Rattle.case_split.specs.Fitting.{are_fit, have_few_ways};
 ghost use Rattle.case_split.specs.Judgeable.{is_frame};
@@ -37,3 +39,10 @@ pub fn guards_are_earlier()
 {
     clauses_hang_together();
 }
+
+/// The live tables of sentences have at most one order: so how many row terms and clauses there
+/// are, where they have one, is said by the sentences alone.
+pub fn sentences_have_one_order()
+    ensures { (sentences : List Formula) (order other : List ℕ)
+        → IsOrder sentences order → IsOrder sentences other → order ≡ other }
+{}
