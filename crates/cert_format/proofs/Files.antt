@@ -1,5 +1,5 @@
 -- A file that was written is read as its certificates.
-use Rattle.std.proofs.Common.{◌≡◌, ◌∙◌, sym, ap, subst, refl, ℕ, ◌^◌, pos, negsuc, true, ◌&&◌, List, [], ◌∷◌, ◌++◌, map, Option, Some, None, option_map, option_and_then, codes, encode_utf8_all, nat_lt, inl, inr, arith, IsUtf8}
+use Rattle.std.proofs.Common.{◌≡◌, ◌∙◌, ap, refl, ℕ, ◌^◌, pos, negsuc, true, ◌&&◌, List, [], ◌∷◌, map, Option, Some, None, codes, encode_utf8_all, inl, inr, arith, IsUtf8}
 use Rattle.std.proofs.lemmas.Bool.{and_parts, ltb-true}
 use Rattle.std.specs.List.{list_all}
 use Rattle.lint_core.specs.declared.database.Value.{Value}
@@ -10,13 +10,13 @@ use Rattle.lint_core.specs.declared.certificate.SameEdge.{SameEdge}
 use Rattle.lint_core.specs.declared.certificate.Step.{Step}
 use Rattle.lint_core.specs.declared.certificate.Step.TheVariants as step
 use Rattle.lint_core.specs.declared.certificate.Cert.{Cert}
-use Rattle.serde_json.specs.Data.{Data, string, object, Members, member, no_members}
+use Rattle.serde_json.specs.Data.{Data, string, Members, member, no_members}
 use Rattle.serde_json.specs.Read.{of_json, of_members, read}
 use Rattle.serde_json.specs.Written.{outline, members_outline}
-use Rattle.cert_format.specs.Forms.{whole, list, wholes, sum_edge_numbers, text_edge_numbers, same_edge_numbers, sum_edge_form, text_edge_form, same_edge_form, last_form, step_form, value_form, cert_form, file_form}
+use Rattle.cert_format.specs.Forms.{whole, list, sum_edge_numbers, text_edge_numbers, same_edge_numbers, sum_edge_form, text_edge_form, same_edge_form, last_form, step_form, value_form, cert_form, file_form}
 use Rattle.cert_format.specs.Fitting.{is_small, sum_edge_fits, text_edge_fits, same_edge_fits, last_fits, step_fits, value_fits, cert_fits, is_numbered}
-use Rattle.cert_format.specs.CertFile.{file_text, HasReading, ReadsAs}
-use Rattle.cert_format.proofs.Shown.{Shows, deeper, integer_shows, whole_shows, string_shows, null_shows, list_shows, each_shows, object_shows, AllMembers, line_reads}
+use Rattle.cert_format.specs.CertFile.{file_text, ReadsAs}
+use Rattle.cert_format.proofs.Shown.{Shows, deeper, integer_shows, whole_shows, string_shows, null_shows, list_shows, each_shows, object_shows, line_reads}
 
 sum_edge_shows : (e : SumEdge) → sum_edge_fits e ≡ true → Shows 1 (sum_edge_form e)
 sum_edge_shows e fits = each_shows 0 whole is_small whole_shows (sum_edge_numbers e) fits

@@ -1,22 +1,22 @@
 -- Reading a certificate from its JSON value gives it back, and what is read has that value; and so of a file's outer form.
-use Rattle.std.proofs.Common.{◌≡◌, ◌∙◌, sym, ap, subst, refl, ℕ, ◌<◌, ◌^◌, pos, negsuc, Bool, true, false, cond, ◌&&◌, ◌==◌, List, [], ◌∷◌, map, Option, Some, None, option_map, option_and_then, codes, encode_utf8_all, nat_lt}
+use Rattle.std.proofs.Common.{◌≡◌, ◌∙◌, sym, ap, subst, refl, ℕ, ◌^◌, pos, negsuc, Bool, true, false, cond, List, map, Option, Some, None, option_map, option_and_then, codes, encode_utf8_all, nat_lt}
 use Rattle.std.proofs.lemmas.Bool.{and_parts, and_from, eqb-true, true≢false}
 use Rattle.std.proofs.lemmas.Option.{none-some, same_Some, cond_some}
 use Rattle.std.proofs.lemmas.Slice.Eq.{bytes_eq-Decides}
 use Rattle.std.proofs.lemmas.Str.{chars-encodes, encodes-chars, scalars-chars, IsUtf8-from_is_utf8, is_utf8-from_IsUtf8}
 use Rattle.std.specs.List.{list_all}
-use Rattle.std.specs.Str.{bytes_eq, chars, is_utf8, all_scalars}
+use Rattle.std.specs.Str.{bytes_eq, chars, is_utf8}
 use Rattle.lint_core.specs.declared.database.Value.{Value}
 use Rattle.lint_core.specs.declared.database.Value.TheVariants as value
 use Rattle.lint_core.specs.declared.certificate.Cert.{Cert}
 use Rattle.lint_core.specs.declared.certificate.Step.{Step}
-use Rattle.serde_json.specs.Data.{Data, null, boolean, number, unsigned, negative, float, string, array, object, Items, item, no_items, Members, member, no_members}
+use Rattle.serde_json.specs.Data.{Data, null, boolean, number, unsigned, negative, float, string, array, object, Items, Members, member, no_members}
 use Rattle.serde_json.specs.Find.{as_number, as_u64, as_array}
 use Rattle.serde_json.specs.View.{items_of}
 use Rattle.cert_format.specs.Forms.{whole, list, step_form, value_form, cert_form, file_form}
 use Rattle.cert_format.specs.Fitting.{is_small, step_fits, value_fits, cert_fits, is_numbered}
 use Rattle.cert_format.specs.CertFile.{IsCert}
-use Rattle.cert_format.specs.inner.Found.{number_found, list_found, step_found, integer_found, text_found, value_found, count_of, count_found, named, at_end, cert_members, cert_parts, cert_found, file_members, is_one, file_parts, certs_found}
+use Rattle.cert_format.specs.inner.Found.{number_found, list_found, step_found, value_found, count_of, count_found, named, at_end, cert_members, cert_parts, cert_found, file_members, is_one, file_parts, certs_found}
 use Rattle.cert_format.proofs.Inverses.{Inverse, numbers, lists, map_some, then_some}
 use Rattle.cert_format.proofs.InverseSteps.{steps}
 
@@ -107,7 +107,7 @@ step_lists = lists step_form step_fits step_found steps
 abbrev made : ℕ → ℕ → List Step → Value → Cert
 made query question steps value = record { query = query; question = question; value = value; steps = steps }
 
-cert_there : (cert : Cert) → cert_fits cert ≡ true → is_numbered cert ≡ true → cert_found (cert_form cert) ≡ Some cert
+pub cert_there : (cert : Cert) → cert_fits cert ≡ true → is_numbered cert ≡ true → cert_found (cert_form cert) ≡ Some cert
 cert_there cert fits numbered =
     let p = and_parts (is_small cert.query) _ fits in
     let q = and_parts (is_small cert.question) _ p.1 in

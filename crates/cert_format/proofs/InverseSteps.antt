@@ -1,5 +1,5 @@
 -- Reading a step from its JSON value gives it back, and what is read has that value.
-use Rattle.std.proofs.Common.{◌≡◌, ◌∙◌, sym, ap, subst, refl, ℕ, Bool, true, ◌&&◌, List, [], ◌∷◌, map, Option, Some, None, option_map, option_and_then, codes}
+use Rattle.std.proofs.Common.{◌≡◌, ◌∙◌, ap, subst, ℕ, true, ◌&&◌, List, map, Option, Some, None, option_map, option_and_then, codes}
 use Rattle.std.proofs.lemmas.Bool.{and_parts}
 use Rattle.std.proofs.lemmas.Option.{none-some}
 use Rattle.std.proofs.lemmas.Slice.Eq.{bytes_eq-Decides}
@@ -10,7 +10,6 @@ use Rattle.lint_core.specs.declared.certificate.Step.{Step}
 use Rattle.lint_core.specs.declared.certificate.Step.TheVariants as step
 use Rattle.lint_core.specs.declared.certificate.TextEdge.{TextEdge}
 use Rattle.serde_json.specs.Data.{Data, null, boolean, number, string, array, object, Items, item, no_items}
-use Rattle.serde_json.specs.Find.{as_str}
 use Rattle.cert_format.specs.declared.name.Name.{Name}
 use Rattle.cert_format.specs.declared.name.Name.TheVariants as name
 use Rattle.cert_format.specs.Forms.{whole, list, sum_edge_form, text_edge_form, same_edge_form, last_form, step_form}

@@ -1,5 +1,5 @@
 -- Reading a part from its JSON value gives it back, and what is read has that value.
-use Rattle.std.proofs.Common.{◌≡◌, ◌∙◌, sym, ap, ap₂, subst, refl, ℕ, ◌^◌, Bool, true, false, cond, ◌&&◌, ◌==◌, List, [], ◌∷◌, map, Option, Some, None, option_map, option_and_then}
+use Rattle.std.proofs.Common.{◌≡◌, ◌∙◌, sym, ap, ap₂, subst, refl, ℕ, Bool, true, false, cond, ◌&&◌, ◌==◌, List, [], ◌∷◌, map, Option, Some, None, option_map, option_and_then}
 use Rattle.std.proofs.lemmas.Bool.{and_parts, and_from, eqb-true}
 use Rattle.std.proofs.lemmas.Option.{same_Some, none-some, cond_some}
 use Rattle.std.specs.List.{list_all}
@@ -104,9 +104,10 @@ edge_items_back (item a (item b (item c no_items))) e h =
     let k = number_back a p.0 p.1 in
     let x = number_back b q.0 q.1 in
     let y = number_back c r.0 r.1 in
-    subst (Numbered (item a (item b (item c no_items)))) r.2
-    (ap₂ (λ u v. item u v) k.0 (ap₂ (λ v w. item v (item w no_items)) x.0 y.0),
-    and_from (is_small p.0) _ k.1 (and_from (is_small q.0) _ x.1 (and_from (is_small r.0) true y.1 refl)))
+    subst (Numbered (item a (item b (item c no_items)))) r.2 (
+      ap₂ (λ u v. item u v) k.0 (ap₂ (λ v w. item v (item w no_items)) x.0 y.0),
+      and_from (is_small p.0) _ k.1 (and_from (is_small q.0) _ x.1 (and_from (is_small r.0) true y.1 refl)),
+    )
 edge_items_back (item a (item b (item c (item d more)))) e h = absurd (none-some e h)
 
 edge_back : (json : Data) (e : EdgeNumbers) → edge_found json ≡ Some e → (json ≡ wholes (numbers_of e)) × (list_all is_small (numbers_of e) ≡ true)
@@ -298,9 +299,10 @@ module _ {A : Type 0} (form : A → Data) (fits : A → Bool) (found : Data → 
           let first = inverse.back a x.0 x.1 in
           let second = inverse'.back b y.0 y.1 in
           let third = inverse''.back c z.0 z.1 in
-          subst (ThreeParts (item a (item b (item c no_items)))) z.2
-          (ap₂ (λ d e. item d e) first.0 (ap₂ (λ d e. item d (item e no_items)) second.0 third.0),
-          and_from (fits x.0) _ first.1 (and_from (fits' y.0) (fits'' z.0) second.1 third.1))
+          subst (ThreeParts (item a (item b (item c no_items)))) z.2 (
+            ap₂ (λ d e. item d e) first.0 (ap₂ (λ d e. item d (item e no_items)) second.0 third.0),
+            and_from (fits x.0) _ first.1 (and_from (fits' y.0) (fits'' z.0) second.1 third.1),
+          )
       three_back (item a (item b (item c (item d more)))) p h = absurd (none-some p h)
 
       pub three_there : (x : A) (y : B) (z : C) → fits x ≡ true → fits' y ≡ true → fits'' z ≡ true

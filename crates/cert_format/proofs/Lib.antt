@@ -5,3 +5,4 @@ pub mod Lengths
 pub mod Listing
 pub mod Shown
 pub mod Files
+pub mod OneReading

@@ -1,16 +1,14 @@
 -- The certificates of a list of values, one after another.
-use Rattle.std.proofs.Common.{◌≡◌, ◌∙◌, sym, ap, ap₂, subst, refl, ℕ, ◌+◌, ◌-◌, ◌^◌, ◌<◌, ◌≤◌, min, true, ◌&&◌, List, [], ◌∷◌, ◌++◌, map, length, take, drop, get_or, Some, None, arith, length-take}
+use Rattle.std.proofs.Common.{◌≡◌, ◌∙◌, sym, ap, ap₂, subst, refl, ℕ, ◌+◌, ◌-◌, ◌^◌, ◌<◌, ◌≤◌, min, true, List, [], ◌∷◌, ◌++◌, map, length, take, drop, get_or, Some, None, arith, length-take}
 use Rattle.std.proofs.lemmas.Bool.{and_from}
 use Rattle.std.proofs.lemmas.List.{map-append, length-map, take-append-drop, take_more, take_all, at_drop_more}
-use Rattle.std.specs.List.{list_all}
 use Rattle.lint_base.proofs.Lists.{all_append}
 use Rattle.lint_core.specs.declared.certificate.Cert.{Cert}
-use Rattle.serde_json.specs.Data.{Data}
 use Rattle.serde_json.specs.View.{view}
 use Rattle.serde_json.specs.declared.value.Value.{Value}
 use Rattle.cert_format.specs.Forms.{cert_form, file_form}
 use Rattle.cert_format.specs.Fitting.{cert_fits, is_numbered}
-use Rattle.cert_format.specs.CertFile.{IsCert, IsWrongAt}
+use Rattle.cert_format.specs.CertFile.{IsWrongAt}
 use Rattle.cert_format.specs.inner.Found.{cert_found}
 use Rattle.cert_format.specs.inner.Listed.{IsListOf}
 use Rattle.cert_format.proofs.InverseCerts.{cert_back, no_cert}

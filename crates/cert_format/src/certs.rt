@@ -147,8 +147,12 @@ fn parts_of(json: &Json) -> Option<Parts<'_>>
 }
 
 fn read_parts(alloc: Global, parts: &Parts<'_>) -> Result<Cert, Unread>
-    ensures { Gives (cert_parts (view parts.now.query.now, view parts.now.question.now,
-        view parts.now.steps.now, view parts.now.value.now)) result }
+    ensures { Gives (cert_parts (
+      view parts.now.query.now,
+      view parts.now.question.now,
+      view parts.now.steps.now,
+      view parts.now.value.now,
+    )) result }
 {
     Ok(Cert {
         query: shaped(count(parts.query))?,

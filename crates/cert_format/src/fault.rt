@@ -13,9 +13,7 @@ pub enum CertFault {
     /// its certificates are, else the number of the first certificate that has not the form of
     /// one, from 1 (4,294,967,295 where it is greater).
     #[error("the JSON has not the form of certificates, at {at}")]
-    BadShape {
-        at: u32,
-    },
+    BadShape { at: u32 },
     /// Memory ran out.
     #[error("out of memory")]
     NoMemory,

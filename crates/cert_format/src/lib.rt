@@ -13,10 +13,14 @@ mod certs;
 mod edges;
 mod fault;
 mod file;
+mod laws;
 mod name;
 mod reading;
 mod steps;
+#[cfg(test)]
+mod tests;
 mod writing;
 
 pub use fault::CertFault;
 pub use file::{cert_json, read_certs};
+pub use laws::files_have_one_reading;

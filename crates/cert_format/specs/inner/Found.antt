@@ -1,5 +1,5 @@
 -- The parts that stand in a JSON value, where it has their form: the inverse of `Forms`.
-use Rattle.std.specs.Prelude.{ℕ, zero, ◌^◌, ◌==◌, pos, negsuc, List, [], ◌∷◌, Bool, true, false, if◌then◌else◌, Option, Some, None, option_map, option_and_then, is_some, codes, nat_lt}
+use Rattle.std.specs.Prelude.{ℕ, ◌^◌, ◌==◌, pos, negsuc, List, [], ◌∷◌, Bool, true, false, if◌then◌else◌, Option, Some, None, option_map, option_and_then, is_some, codes, nat_lt}
 use Rattle.std.specs.Str.{bytes_eq, chars, is_utf8}
 use Rattle.lint_core.specs.declared.database.Value.{Value}
 use Rattle.lint_core.specs.declared.database.Value.TheVariants as value

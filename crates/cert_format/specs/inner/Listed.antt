@@ -1,5 +1,5 @@
 -- What the values of a file's certificates are.
-use Rattle.std.specs.Prelude.{◌≡◌, ◌+◌, List, [], ◌∷◌, map, length, true, ⊤}
+use Rattle.std.specs.Prelude.{◌≡◌, List, map, true, ⊤}
 use Rattle.std.specs.List.{list_all}
 use Rattle.lint_core.specs.declared.certificate.Cert.{Cert}
 use Rattle.serde_json.specs.Data.{Data}
