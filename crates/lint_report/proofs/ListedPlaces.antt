@@ -194,3 +194,5 @@ predicates_listed query = sym (predicates_agree (main_condition query))
 
 pub not_ins_listed : (query : Query) → places NotIns (main_condition query) ≡ subquery_places (not_ins_of query)
 not_ins_listed query = sym (not_ins_agree (main_condition query) (main_tables query))
+
+pub ruleset all_listed = (scalars_listed, predicates_listed, not_ins_listed)

@@ -129,7 +129,7 @@ fn listed_of(alloc: Global, listed: Listed, query: &Query) -> Result<Items<Span>
 
 /// The places of the query's scalar subqueries, of its predicates, and of its NOT IN subqueries
 /// that select a column.
-#[tactic(auto, using(crate::proofs::ListedPlaces::scalars_listed, crate::proofs::ListedPlaces::predicates_listed, crate::proofs::ListedPlaces::not_ins_listed))]
+#[tactic(auto, using(crate::proofs::ListedPlaces::all_listed))]
 pub(crate) fn places_of(alloc: Global, query: &Query) -> Result<Places, NoMemory>
     ensures { IfOk result (λ found. found ≡ places_of query.now) }
 {

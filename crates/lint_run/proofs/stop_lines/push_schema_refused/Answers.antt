@@ -1,8 +1,9 @@
 use Rattle.std.proofs.Common.{codes, string_bytes}
 use Rattle.std.proofs.lemmas.Result.{on_ok_weaker}
-use Rattle.lint_run.specs.Text.{refusal_text, schema_refused_text}
-use Rattle.lint_run.proofs.Appends.{then_three}
-use Rattle.lint_run.proofs.report.push_schema_refused.Goals as goal
+use Rattle.lint_report.specs.RefusalText.{refusal_text}
+use Rattle.lint_run.specs.Text.{schema_refused_text}
+use Rattle.insert_lines.proofs.Appends.{then_three}
+use Rattle.lint_run.proofs.stop_lines.push_schema_refused.Goals as goal
 
 pub returns : goal.returns
 unfolding schema_refused_text
