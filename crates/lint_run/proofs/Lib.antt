@@ -1,4 +1,2 @@
-pub mod Appends
 pub mod Entries
-pub mod Quotes
 pub mod PrintedAlways

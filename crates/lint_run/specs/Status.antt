@@ -1,19 +1,19 @@
 -- The number that the program ends with.
 use Rattle.std.specs.Prelude.{ℕ, Bool, true, false, List, [], ◌∷◌, Option, Some, None, if◌then◌else◌}
-use Rattle.std.specs.List.{list_any}
+use Rattle.std.specs.List.{list_any, zip}
+use Rattle.lint_core.specs.declared.query.Question.{Question}
 use Rattle.lint_core.specs.declared.run.Answer.{Answer}
-use Rattle.lint_core.specs.declared.run.Answer.TheVariants.{Always, NotAlways}
 use Rattle.lint_core.specs.declared.run.QueryResult.{QueryResult}
 use Rattle.lint_core.specs.declared.run.QueryResult.TheVariants.{Refused, Answered}
 use Rattle.lint_core.specs.declared.run.QueryRun.{QueryRun}
 use Rattle.lint_core.specs.declared.run.Run.{Run}
+use Rattle.lint_report.specs.Finding.{is_finding}
 use Rattle.lint_run.specs.declared.outcome.Stop.{Stop}
 use Rattle.lint_run.specs.declared.outcome.Stop.TheVariants as stop
 
--- E1 is a finding where it always holds
-abbrev pub is_finding : Answer → Bool
-is_finding (Always cert) = true
-is_finding (NotAlways counters) = false
+-- some question of the query has an answer that is a finding
+abbrev pub any_finding : List Question → List Answer → Bool
+any_finding questions answers = list_any (λ (both : Question × Answer). is_finding both.0 both.1) (zip questions answers)
 
 abbrev pub is_none_of : {A : Type 0} → List A → Bool
 is_none_of [] = true
@@ -21,7 +21,7 @@ is_none_of (a ∷ rest) = false
 
 abbrev pub has_finding : QueryResult → Bool
 has_finding (Refused refusal) = false
-has_finding (Answered query questions answers) = list_any is_finding answers
+has_finding (Answered query questions answers) = any_finding questions answers
 
 -- a query of which nothing is asked counts as a refused one
 abbrev pub is_unjudged : QueryResult → Bool

@@ -17,7 +17,7 @@ mod laws;
 mod outcome;
 mod printed;
 mod program;
-mod report;
+mod stop_lines;
 mod words;
 
 pub use laws::worked_texts;

@@ -2,7 +2,8 @@
 ghost use Rattle.std.specs.Prelude.{◌≡◌, ◌≤◌, ℕ, List, [], Option, Some, None, length, map, string_bytes, IfOk, OnOk, OnErr};
 ghost use Rattle.std.specs.List.{list_any};
 ghost use Rattle.lint_run.specs.PrintedAlways.{PrintedAlways};
-ghost use Rattle.lint_run.specs.Status.{is_finding, has_finding, is_unjudged, queries_status as status_of_queries, status_of};
+ghost use Rattle.lint_report.specs.Finding.{is_finding};
+ghost use Rattle.lint_run.specs.Status.{any_finding, has_finding, is_unjudged, queries_status as status_of_queries, status_of};
 ghost use Rattle.lint_run.specs.Stops.{is_no_memory, Told, told, IsUnbegun, HasCauseAt, HasCause};
 ghost use Rattle.lint_run.specs.Text.{run_text};
 ghost use Rattle.lint_run.specs.Words.{Paths, paths_of, paths_at};
@@ -11,11 +12,12 @@ ghost use Rattle.lint_run.specs.Written.{sunk, EndsRight};
 use crate::judging::{queries_at, schema_at};
 use crate::outcome::{Outcome, Stop};
 use crate::printed::printed_always_is_meant;
-use crate::report::text_of;
+use crate::stop_lines::stop_text;
 use crate::words::files_named;
-use lint_base::{Items, Shelf, Sink, WriteStop, write_text};
-use lint_core::{Answer, QueryResult, QueryRun, Run, Schema};
-use std::alloc::{AllocError, Global};
+use lint_base::{Items, NoMemory, Shelf, Sink, WriteStop, write_text};
+use lint_core::{Answer, QueryResult, QueryRun, Question, Run, Schema};
+use lint_report::{is_finding, report_text};
+use std::alloc::Global;
 
 /// What the files came to, before anything is written.
 #[derive(Drop)]
@@ -92,16 +94,16 @@ fn judge_words<H: Shelf>(alloc: Global, shelf: &mut H, words: &[String]) -> Judg
     }
 }
 
-fn finds(answer: &Answer) -> bool
-    ensures { result ≡ is_finding answer.now }
+fn pair_finds(question: &Question, answer: &Answer) -> bool
+    ensures { result ≡ is_finding question.now answer.now }
 {
-    matches!(answer, Answer::Always(_))
+    is_finding(*question, answer)
 }
 
-fn any_finds(answers: &[Answer]) -> bool
-    ensures { result ≡ list_any is_finding answers.now }
+fn any_finds(questions: &[Question], answers: &[Answer]) -> bool
+    ensures { result ≡ any_finding questions.now answers.now }
 {
-    answers.iter().any(finds)
+    questions.iter().zip(answers).any(|(q, a)| pair_finds(q, a))
 }
 
 fn result_finds(result_of: &QueryResult) -> bool
@@ -109,7 +111,11 @@ fn result_finds(result_of: &QueryResult) -> bool
 {
     match result_of {
         QueryResult::Refused(_) => false,
-        QueryResult::Answered { answers, .. } => any_finds(answers.as_slice()),
+        QueryResult::Answered {
+            questions,
+            answers,
+            ..
+        } => any_finds(questions.as_slice(), answers.as_slice()),
     }
 }
 
@@ -176,12 +182,13 @@ fn wants_memory(stop: Option<Stop>) -> bool
     matches!(stop, Some(Stop::NoMemory))
 }
 
-fn text_to_write(alloc: Global, stop: Option<Stop>, run: &Run) -> Result<String, AllocError>
-    ensures { IfOk result (λ text. string_bytes text ≡ run_text stop run.now) }
+fn text_to_write(alloc: Global, stop: Option<Stop>, run: &Run) -> Result<Vec<u8>, NoMemory>
+    ensures { IfOk result (λ bytes. bytes.items ≡ run_text stop run.now) }
 {
-    let mut text = String::new(alloc);
-    text_of(&mut text, stop, run)?;
-    Ok(text)
+    match stop {
+        Some(stop) => stop_text(alloc, stop),
+        None => report_text(alloc, run),
+    }
 }
 
 /// Writes the text of what was judged.
@@ -199,7 +206,7 @@ fn written<K: Sink>(alloc: Global, judged: Judged, out: &mut K) -> Outcome
     let Ok(text) = text_to_write(alloc, stop, &run) else {
         return ended(Some(Stop::NoMemory), run);
     };
-    match write_text(out, text.as_str().as_bytes()) {
+    match write_text(out, text.as_slice()) {
         Ok(()) => ended(stop, run),
         Err(WriteStop::WriteFault) => ended(Some(Stop::WriteFault), run),
     }

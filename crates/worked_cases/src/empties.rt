@@ -108,6 +108,7 @@ fn push_answer(out: &mut String, answer: &Answer) -> Result<(), AllocError> {
             }
             Ok(())
         }
+        _ => out.push_str("another answer"),
     }
 }
 

@@ -1,0 +1,3 @@
+pub mod InsertOrder
+pub mod InsertText
+pub mod Examples

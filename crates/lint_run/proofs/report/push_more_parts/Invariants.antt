@@ -1,6 +1,0 @@
-use Rattle.std.proofs.Common.{◌≡◌, ◌++◌, drop, codes, string_bytes}
-use Rattle.lint_run.specs.Text.{texts, part_text}
-use Rattle.lint_run.proofs.report.push_more_parts.Given as goal
-
-abbrev pub invariant-loop-part : goal.invariant-loop-part
-invariant-loop-part l = string_bytes l.out ++ texts (λ e. codes "," ++ part_text e) (drop l.part-index l.parts) ≡ string_bytes l.fn.out ++ texts (λ e. codes "," ++ part_text e) l.parts

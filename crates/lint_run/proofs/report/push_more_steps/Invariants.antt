@@ -1,6 +1,0 @@
-use Rattle.std.proofs.Common.{◌≡◌, ◌++◌, drop, codes, string_bytes}
-use Rattle.lint_run.specs.Text.{texts, step_text}
-use Rattle.lint_run.proofs.report.push_more_steps.Given as goal
-
-abbrev pub invariant-loop-step : goal.invariant-loop-step
-invariant-loop-step l = string_bytes l.out ++ texts (λ s. codes "," ++ step_text s) (drop l.step-index l.steps) ≡ string_bytes l.fn.out ++ texts (λ s. codes "," ++ step_text s) l.steps

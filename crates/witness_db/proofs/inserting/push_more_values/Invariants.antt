@@ -1,6 +1,0 @@
-use Rattle.std.proofs.Common.{◌≡◌, ◌++◌, drop, codes, string_bytes}
-use Rattle.witness_db.specs.InsertText.{texts, value_text}
-use Rattle.witness_db.proofs.inserting.push_more_values.Given as goal
-
-abbrev pub invariant-loop-value : goal.invariant-loop-value
-invariant-loop-value l = string_bytes l.out ++ texts (λ v. codes ", " ++ value_text v) (drop l.value-index l.values) ≡ string_bytes l.fn.out ++ texts (λ v. codes ", " ++ value_text v) l.values

@@ -1,8 +1,0 @@
-use Rattle.std.proofs.Common.{◌≡◌, ◌++◌, drop, string_bytes}
-use Rattle.witness_db.specs.InsertText.{texts, table_lines}
-use Rattle.witness_db.proofs.inserting.push_tables.Given as goal
-
-abbrev pub invariant-loop-number : goal.invariant-loop-number
-invariant-loop-number l =
-    string_bytes l.out ++ texts (table_lines l.indent l.schema l.database) (drop l.number-index l.order)
-    ≡ string_bytes l.fn.out ++ texts (table_lines l.indent l.schema l.database) l.order

@@ -1,3 +1,0 @@
-pub mod InsertText
-pub mod InsertOrder
-pub mod Examples
