@@ -2,3 +2,5 @@ mod CountsWithin
 mod Asking
 mod Variables
 mod MainScope
+mod Conjuncts
+mod SubqueryRows

@@ -1,3 +1,4 @@
 pub mod Columns
 pub mod Numbered
 pub mod Parts
+pub mod Stands

@@ -1,15 +1,18 @@
 //! Columns as formulas see them.
-ghost use Rattle.std.specs.Prelude.{◌≡◌, true, false, unwrap_or, slice_get, IfSome, IfNone};
+ghost use Rattle.std.specs.Prelude.{◌≡◌, List, true, false, unwrap_or, slice_get, IfSome, IfNone};
 ghost use Rattle.std.specs.Option.{option_map_or};
 ghost use Rattle.lint_core.specs.Asked.{is_written_column};
 ghost use Rattle.lint_core.specs.Fits.{at_entry};
 ghost use Rattle.lint_core.specs.Subqueries.{is_column};
+ghost use Rattle.lint_core.specs.declared.schema.Table.{Table};
 ghost use Rattle.sort_formula.specs.Counters.{item_term};
-ghost use Rattle.sort_formula.specs.Sides.{is_text_term};
+ghost use Rattle.sort_formula.specs.Sides.{is_null_formula, is_text_term};
 ghost use Rattle.error_reductions.specs.inner.Columns.{IsColumn};
 
+use lint_base::Items;
 use lint_core::{Kind, Levels, Query, Schema, Scope, Term, number_at};
-use sort_formula::Cell;
+use sort_formula::{Cell, Formula};
+use std::alloc::Global;
 
 /// A column: its cell in the row of a variable, and whether it holds texts.
 #[derive(Clone, Copy)]
@@ -71,5 +74,25 @@ pub(crate) fn item_column(schema: &Schema, query: &Query, scope: &Scope, item: u
     match column_of(schema, scope, &found.term) {
         Some(column) => column,
         None => unreachable!(),
+    }
+}
+
+/// The term is NULL.
+pub(crate) fn is_null(alloc: Global, scope: &Scope, term: &Term) -> Formula
+    ensures { (schema : List Table) → result ≡ is_null_formula schema scope.now term.now }
+{
+    match term {
+        Term::Cell {
+            level,
+            entry,
+            column,
+            ..
+        } => Cell {
+            row: variable_at(scope, *level, *entry),
+            column: *column,
+        }
+        .is_null(),
+        Term::Number { .. } | Term::Text(_) => Formula::Or(Items::new(alloc)),
+        Term::Null => Formula::And(Items::new(alloc)),
     }
 }

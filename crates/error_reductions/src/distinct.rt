@@ -12,7 +12,7 @@ ghost use Rattle.error_reductions.specs.inner.Parts.{twice_at};
 
 use crate::columns::column_of;
 use crate::joined::some_other;
-use crate::scopes::{from_number, main_scope, own_tables, push_numbers};
+use crate::scopes::{entry_count, from_number, main_scope, own_tables, push_numbers};
 use crate::selected::not_distinct;
 use lint_base::{Items, NoMemory};
 use lint_core::{Item, Query, Schema, Scope, Term};
@@ -112,13 +112,6 @@ fn own_twice(alloc: Global, query: &Query) -> Result<Items<u32>, NoMemory>
     let mut lead = own_tables(alloc, query)?;
     push_numbers(&mut lead, own.as_slice())?;
     Ok(lead)
-}
-
-fn entry_count(query: &Query) -> u32
-    requires { length (main_entries query.now) ≤ 16 }
-    ensures { result ≡ length (main_entries query.now) }
-{
-    query.block.entries.as_slice().len() as u32
 }
 
 /// The counter sentence of E2: two different bindings, at which WHERE is true, give rows that are

@@ -1,5 +1,5 @@
 //! Scopes: which variable stands for which entry.
-ghost use Rattle.std.specs.Prelude.{◌≡◌, ◌<◌, ◌+◌, ◌^◌, ◌∷◌, ◌++◌, [], length, IfOk, OnOk};
+ghost use Rattle.std.specs.Prelude.{◌≡◌, ◌<◌, ◌≤◌, ◌+◌, ◌^◌, ◌∷◌, ◌++◌, [], length, IfOk, OnOk};
 ghost use Rattle.lint_core.specs.Asked.{main_entries};
 ghost use Rattle.lint_core.specs.Fits.{main_tables, tables_of};
 ghost use Rattle.question_truths.specs.Room.{entries_in};
@@ -97,6 +97,15 @@ pub(crate) fn own_tables(alloc: Global, query: &Query) -> Result<Items<u32>, NoM
         tables.push(entry.table)?;
     }
     Ok(tables)
+}
+
+/// How many main entries there are.
+pub(crate) fn entry_count(query: &Query) -> u32
+    requires { length (main_entries query.now) ≤ 16 }
+    ensures entries { result ≡ length (main_entries query.now) }
+    ensures tables { result ≡ length (tables_of (main_entries query.now)) }
+{
+    query.block.entries.as_slice().len() as u32
 }
 
 fn only(alloc: Global, level: Items<u32>) -> Result<Items<Items<u32>>, NoMemory>

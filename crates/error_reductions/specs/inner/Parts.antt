@@ -1,6 +1,7 @@
 -- Parts of the counter sentences, by what the code knows of a column. Nothing here has to be believed: no public
 -- contract says it.
-use Rattle.std.specs.Prelude.{ℤ, pos, neg_ℤ, ◌-ℤ◌, ℕ, List, [], ◌∷◌, map, Option, Some, None, if◌then◌else◌}
+use Rattle.std.specs.Prelude.{ℤ, pos, neg_ℤ, ◌-ℤ◌, ℕ, ◌+◌, Bool, not, List, [], ◌∷◌, map, Option, Some, None, if◌then◌else◌}
+use Rattle.lint_core.specs.declared.condition.Cond.{Cond}
 use Rattle.lint_core.specs.declared.database.Value.{Value}
 use Rattle.lint_core.specs.declared.database.Value.TheVariants as value
 use Rattle.sort_formula.specs.declared.building.Cell.{Cell}
@@ -16,8 +17,10 @@ use Rattle.std.specs.List.{filter}
 use Rattle.lint_core.specs.declared.query.Item.{Item}
 use Rattle.lint_core.specs.declared.scope.Scope.{Scope}
 use Rattle.lint_core.specs.Asked.{main_condition}
+use Rattle.lint_core.specs.Naming.{names}
 use Rattle.lint_core.specs.Subqueries.{is_column}
 use Rattle.sort_formula.specs.Counters.{not_distinct, some_other}
+use Rattle.sort_formula.specs.Negated.{negated}
 use Rattle.sort_formula.specs.Sides.{from_number}
 use Rattle.sort_formula.specs.Translation.{is_true_formula}
 use Rattle.error_reductions.specs.declared.columns.Column.{Column}
@@ -54,3 +57,17 @@ twice_at schema query one two n =
     ∷ some_other (from_number 0 n) (from_number n n)
     ∷ map (λ (i : Item). not_distinct schema one i.term two i.term) (filter (λ (i : Item). is_column i.term) query.items)
     )
+
+-- one of the two holds, and the other does not
+abbrev pub exactly_one : Formula → Formula → Formula
+exactly_one one other = f.Or (f.And (one ∷ negated other ∷ []) ∷ f.And (other ∷ negated one ∷ []) ∷ [])
+
+-- the condition names the entry, or it does not
+abbrev pub is_chosen : ℕ → Bool → Cond → Bool
+is_chosen entry named c = if named then names entry c else not (names entry c)
+
+-- the condition is true in both scopes, and some two rows differ: of the variables from a number on, and of as many
+-- behind them
+abbrev pub two_at : List Table → Cond → Scope → Scope → ℕ → ℕ → Formula
+two_at schema cond one two first n =
+    f.And (is_true_formula schema cond one ∷ is_true_formula schema cond two ∷ some_other (from_number first n) (from_number (first + n) n) ∷ [])

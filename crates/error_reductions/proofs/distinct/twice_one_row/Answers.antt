@@ -18,7 +18,7 @@ pub twice_scope-requires-2-clause-few : goal.twice_scope-requires-2-clause-few
 twice_scope-requires-2-clause-few c = few_entries c.args.schema.now c.args.query.now c.requires
 
 pub twice_scope-requires-2-clause-first : goal.twice_scope-requires-2-clause-first
-twice_scope-requires-2-clause-first c = omega (arith, few_entries c.args.schema.now c.args.query.now c.requires, c.entry_count-count.ensures)
+twice_scope-requires-2-clause-first c = omega (arith, few_entries c.args.schema.now c.args.query.now c.requires, c.entry_count-count.ensures.entries)
 
 pub twice_body-requires-clause-one : goal.twice_body-requires-clause-one
 twice_body-requires-clause-one c =
@@ -40,17 +40,17 @@ twice_body-requires-clause-two c =
     let few = few_entries schema query c.requires in
     let room = room_is query (count_entries cond) depth few (c.queries_have_room.ensures schema query c.requires) (omega (arith, few)) in
     subst (λ (s : Scope). CanStand schema cond s) (sym c.in_ok-two.ensures)
-    (where_stands schema query cond c.entry_count-count.result depth (c.parts_of_queries_fit.ensures.condition schema query c.requires) (omega (arith, c.entry_count-count.ensures)) room)
+    (where_stands schema query cond c.entry_count-count.result depth (c.parts_of_queries_fit.ensures.condition schema query c.requires) (omega (arith, c.entry_count-count.ensures.entries)) room)
 
 pub twice_body-requires-clause-few : goal.twice_body-requires-clause-few
-twice_body-requires-clause-few c = omega (arith, few_entries c.args.schema.now c.args.query.now c.requires, c.entry_count-count.ensures)
+twice_body-requires-clause-few c = omega (arith, few_entries c.args.schema.now c.args.query.now c.requires, c.entry_count-count.ensures.entries)
 
 pub returns : goal.returns
 returns c =
     let schema = c.args.schema.now in
     let query = c.args.query.now in
     let body : c.in_ok-body.body ≡ (distinct_counter schema query).body =
-    twice_is schema query c.entry_count-count.result c.in_ok-one.one c.in_ok-two.two c.in_ok-body.body c.entry_count-count.ensures c.in_ok-one.ensures c.in_ok-two.ensures c.in_ok-body.ensures
+    twice_is schema query c.entry_count-count.result c.in_ok-one.one c.in_ok-two.two c.in_ok-body.body c.entry_count-count.ensures.entries c.in_ok-one.ensures c.in_ok-two.ensures c.in_ok-body.ensures
     in
     IfOk-weaker c.exist_rows.result (λ formula. formula ≡ exist_rows c.as_slice.result.now c.in_ok-body.body) (λ formula. formula ≡ sentence_of (distinct_counter schema query))
     (λ formula is. is ∙ ap₂ exist_rows (c.as_slice.ensures ∙ c.in_ok-lead.ensures) body)
