@@ -4,3 +4,6 @@ pub mod Axioms
 pub mod Appends
 pub mod Quotes
 pub mod FirstFound
+pub mod Ranks
+pub mod Places
+pub mod Fitting

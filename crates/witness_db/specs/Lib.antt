@@ -1,3 +1,4 @@
 pub mod InsertText
 pub mod InsertOrder
 pub mod Examples
+pub mod inner
