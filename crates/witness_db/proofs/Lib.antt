@@ -1,3 +1,6 @@
 pub mod Standing
 pub mod Domains
 pub mod Axioms
+pub mod Ranks
+pub mod Places
+pub mod Fitting
