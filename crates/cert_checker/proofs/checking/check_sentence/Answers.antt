@@ -2,7 +2,7 @@ use Rattle.std.proofs.Common.{◌∙◌, [], ◌∷◌, ap, refl, List, map}
 use Rattle.constraint_axioms.specs.declared.axiom.Axiom.{Axiom}
 use Rattle.sort_formula.specs.Certificate.{fact_of, first_wrong}
 use Rattle.cert_checker.proofs.Verdict.{accepted_where_none, refused_where_some, wrong_is}
-use Rattle.cert_checker.proofs.check.check_sentence.Goals as goal
+use Rattle.cert_checker.proofs.checking.check_sentence.Goals as goal
 
 pub returns-in-Some-clause-accepted : goal.returns-in-Some-clause-accepted
 returns-in-Some-clause-accepted c =

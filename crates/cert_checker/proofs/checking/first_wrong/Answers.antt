@@ -2,7 +2,7 @@ use Rattle.std.proofs.Common.{◌∙◌, ◌<◌, ap, sym, length, arith}
 use Rattle.std.specs.Prelude.{Some, None, if◌then◌else◌}
 use Rattle.cert_checker.specs.inner.Branches.{branches_of}
 use Rattle.cert_checker.proofs.Numbers.{next_right, next_wrong}
-use Rattle.cert_checker.proofs.check.first_wrong.Goals as goal
+use Rattle.cert_checker.proofs.checking.first_wrong.Goals as goal
 
 pub returns-then-not-branch : goal.returns-then-not-branch
 returns-then-not-branch c =

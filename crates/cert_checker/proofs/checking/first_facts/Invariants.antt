@@ -1,7 +1,7 @@
 use Rattle.std.proofs.Common.{◌≡◌, ◌++◌, ◌∷◌, [], map, drop}
 use Rattle.constraint_axioms.specs.declared.axiom.Axiom.{Axiom}
 use Rattle.sort_formula.specs.Certificate.{fact_of}
-use Rattle.cert_checker.proofs.check.first_facts.Given as goal
+use Rattle.cert_checker.proofs.checking.first_facts.Given as goal
 
 abbrev pub invariant-loop-axiom : goal.invariant-loop-axiom
 invariant-loop-axiom l =

@@ -1,7 +1,7 @@
 use Rattle.std.proofs.Common.{◌≡◌, ◌+◌, ◌∷◌, [], drop}
 use Rattle.sort_formula.specs.Certificate.{first_wrong}
 use Rattle.cert_checker.specs.inner.Branches.{IsRun, branches_of}
-use Rattle.cert_checker.proofs.check.first_wrong.Given as goal
+use Rattle.cert_checker.proofs.checking.first_wrong.Given as goal
 
 abbrev pub invariant-loop-index : goal.invariant-loop-index
 invariant-loop-index l = record {
