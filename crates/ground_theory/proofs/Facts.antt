@@ -274,7 +274,7 @@ module _ (frame : Frame) (literals : List Literal) (all : all_fit frame literals
   le_small (atom.Same row other) β small is = cc
   le_small (atom.Other row other) β small is = cc
 
-  bound_small : (o : SumEdge) (β : Bound) → stated frame literals o ≡ Some β → IsSmallBound β
+  pub bound_small : (o : SumEdge) (β : Bound) → stated frame literals o ≡ Some β → IsSmallBound β
   bound_small (edge.Fact fact) β is =
       option_and_then_some bound_in (atom_of (literal_branch frame literals) fact) β is
       (λ x at more.

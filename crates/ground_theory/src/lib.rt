@@ -19,10 +19,23 @@
 //! the layers above do. `Examples` are the literals of `worked_leaves`.
 #![tactic(auto)]
 
+mod assignment;
+mod chains;
+mod clashes;
+mod counting;
+mod joining;
+mod judging;
 mod laws;
 mod literal;
+mod numbering;
+mod numbers;
+mod paths;
+mod ring;
+mod sifting;
+mod texts;
 mod worked;
 
+pub use judging::judge;
 pub use laws::{
     domains_are_ranges, leaves_move, literals_make_systems, literals_make_texts, paths_make_leaves,
     right_leaves_exclude, rings_make_leaves, systems_are_moderate, texts_meet_literals,
