@@ -10,3 +10,4 @@ pub mod Systems
 pub mod Counted
 pub mod Filling
 pub mod Deciding
+pub mod Found
