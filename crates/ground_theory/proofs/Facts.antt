@@ -235,7 +235,7 @@ number_range least greatest range =
       | inr third ↦ small_range (2 ^ 63) least greatest (omega arith) third
     ]
 
-le_is : (a b : ℤ) → a ≤ℤ b → int_le a b ≡ true
+pub le_is : (a b : ℤ) → a ≤ℤ b → int_le a b ≡ true
 le_is a b h = grind (arith, ints)
 
 le_from : (a b : ℤ) → int_le a b ≡ true → a ≤ℤ b

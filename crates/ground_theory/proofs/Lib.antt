@@ -25,3 +25,8 @@ pub mod Tying
 pub mod Ready
 pub mod Entering
 pub mod Named
+pub mod SettlingRows
+pub mod SettlingCells
+pub mod SettlingAtoms
+pub mod SettlingPlain
+pub mod Settling

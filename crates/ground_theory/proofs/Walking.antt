@@ -28,7 +28,7 @@ pub leads_push : (joins : List Join) (from : ℕ) (path : List SameEdge) (at : �
 leads_push joins from [] at e next led edge = (next, subst (λ (n : ℕ). IsJoinEdge joins e n next) (sym led) edge, refl)
 leads_push joins from (x ∷ xs) at e next led edge = (led.0, led.1, leads_push joins led.0 xs at e next led.2 edge)
 
-one_text : (a b : List ℕ) → is_same_text a b ≡ true → a ≡ b
+pub one_text : (a b : List ℕ) → is_same_text a b ≡ true → a ≡ b
 one_text a b same = let e : side.Text a ≡ side.Text b = one_side (side.Text a) (side.Text b) same in cc e
 
 module _ (joins : List Join) (from to : ℕ) where
