@@ -57,7 +57,7 @@ some_text None is = cc
 some_text (Some d) is = (d, refl)
 
 module _ (frame : Frame) where
-  abbrev ids : List ℕ
+  abbrev pub ids : List ℕ
   ids = below (length frame.tables)
 
   number_side : (s : Side) → is_number_side frame s ≡ true → side_at ids s ≡ Some s
@@ -82,7 +82,7 @@ module _ (frame : Frame) where
   -- ---- the atom of a literal
 
   module _ (literals : List Literal) (fact : ℕ) (l : Literal) (listed : slice_get literals fact ≡ Some l) where
-    atom_is : atom_of (literal_branch frame literals) fact ≡ atom_at ids l.atom
+    pub atom_is : atom_of (literal_branch frame literals) fact ≡ atom_at ids l.atom
     atom_is =
         ap (option_and_then (λ (x : Fact). atom_in x.rows (out-Formula x.formula))) (slice_get-map (literal_fact ids) literals fact ∙ ap (option_map (literal_fact ids)) listed)
         ∙ ap (atom_in ids) (f.outs-Atom l.atom)

@@ -30,3 +30,8 @@ pub mod SettlingCells
 pub mod SettlingAtoms
 pub mod SettlingPlain
 pub mod Settling
+pub mod Preparing
+pub mod Clashing
+pub mod Chaining
+pub mod Texting
+pub mod Bounding

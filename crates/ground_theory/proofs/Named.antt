@@ -51,12 +51,12 @@ module _ (frame : Frame) (frame_is : is_frame frame ≡ true) where
       let few = columns_few frame frame_is row in
       (low, omega arith)
 
-  number_there : (s : Side) (row column : ℕ) → s ≡ side.Cell row column → is_number_side frame s ≡ true → column < length (domains_at frame row)
+  pub number_there : (s : Side) (row column : ℕ) → s ≡ side.Cell row column → is_number_side frame s ≡ true → column < length (domains_at frame row)
   number_there s row column is fit =
       let d = some_number (slice_get (domains_at frame row) column) (ap (is_number_side frame) (sym is) ∙ fit) in
       slice_get_within (domains_at frame row) column d.0 d.1
 
-  text_there : (s : Side) (row column : ℕ) → s ≡ side.Cell row column → is_text_side frame s ≡ true → column < length (domains_at frame row)
+  pub text_there : (s : Side) (row column : ℕ) → s ≡ side.Cell row column → is_text_side frame s ≡ true → column < length (domains_at frame row)
   text_there s row column is fit =
       let d = some_text (slice_get (domains_at frame row) column) (ap (is_text_side frame) (sym is) ∙ fit) in
       slice_get_within (domains_at frame row) column d.0 d.1

@@ -64,9 +64,6 @@ zip_told R f g (x ∷ xs) start each =
     (subst (λ (n : ℕ). AllZip R (f n x) (g n x)) (let e : start + 0 ≡ start = omega arith in e) (each 0 x refl))
     (zip_told R f g xs (suc start) (λ k m at. subst (λ (n : ℕ). AllZip R (f n m) (g n m)) (let e : start + suc k ≡ suc start + k = omega arith in e) (each (suc k) m at)))
 
-pub text_side : List Cell → ℕ → Side
-text_side cells n = side.Cell (cell_at cells n).row (cell_at cells n).column
-
 module _ (frame : Frame) (literals : List Literal) (all : all_fit frame literals ≡ true) (columns : HaveColumns frame)
     (labels : List ℕ) (rows_is : length labels ≡ length frame.tables) (firms : List Named) (firms_is : firms ≡ gathered firm_of 0 literals)
     (places : List (Option ℕ)) (cells : List Cell) (numbered : IsNumbered labels firms (length firms) places cells) where

@@ -11,3 +11,4 @@ pub mod Counted
 pub mod Filling
 pub mod Deciding
 pub mod Found
+pub mod Known

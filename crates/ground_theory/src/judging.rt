@@ -7,6 +7,7 @@ ghost use Rattle.ground_theory.specs.Leaves.{is_right_leaf};
 ghost use Rattle.ground_theory.specs.inner.Counted.{IfNumbers, IfLeaf, AreNumbers, IsRingLeaf};
 ghost use Rattle.ground_theory.specs.inner.Deciding.{AreClear, IsRowLeaf, IsReady, all_stated};
 ghost use Rattle.ground_theory.specs.inner.Joining.{AreJoined, AreSames};
+ghost use Rattle.ground_theory.specs.inner.Known.{AreJudged, AreSifted, IsCounted};
 ghost use Rattle.ground_theory.specs.inner.Numbering.{AreWithin};
 ghost use Rattle.ground_theory.specs.inner.Sums.{AreFew, AreInRoom, AreKnown, HaveColumns, HaveRoom};
 
@@ -19,7 +20,7 @@ use crate::literal::{Conflict, Frame, Judged, Literal};
 use crate::numbering::{Numbering, number_cells};
 use crate::numbers::{bound_edges, range_edges, same_edges};
 use crate::sifting::{Bound, Sifted, sift};
-use crate::texts::said_texts;
+use crate::texts::all_texts;
 use lint_base::{Items, NoMemory};
 use lint_core::Step;
 use std::alloc::Global;
@@ -40,15 +41,9 @@ pub fn judge(alloc: Global, literals: &[Literal], frame: &Frame) -> Result<Judge
     let sifted = sift(alloc, literals)?;
     let rows = frame.tables.as_slice().len() as u32;
     let joined = classes(alloc, rows, &sifted.sames)?;
-    if let Some(leaf) = row_clash(alloc, rows, &sifted, &joined)? {
-        return Ok(Judged::Clash(Conflict { leaf }));
-    }
-    let numbering = number_cells(alloc, &joined.labels, &sifted.firms)?;
-    match count_all(alloc, frame, &joined, &numbering, &sifted.bounds)? {
-        Counted::Leaf(leaf) => Ok(Judged::Clash(Conflict { leaf })),
-        Counted::Numbers(numbers) => {
-            judge_texts(alloc, literals, frame, joined, numbering, numbers)
-        }
+    match row_clash(alloc, rows, &sifted, &joined)? {
+        Some(leaf) => Ok(Judged::Clash(Conflict { leaf })),
+        None => judge_numbers(alloc, literals, frame, &sifted, joined),
     }
 }
 
@@ -110,6 +105,32 @@ fn count_all(
     count(alloc, vars, &numbering.cells, &stated)
 }
 
+/// An assignment, where rows of one class contradict nothing, or the leaf of a ring or a path.
+fn judge_numbers(
+    alloc: Global,
+    literals: &[Literal],
+    frame: &Frame,
+    sifted: &Sifted,
+    joined: Joined,
+) -> Result<Judged, NoMemory>
+    requires judged { AreJudged frame.now literals.now }
+    requires sifted { AreSifted literals.now sifted.now }
+    requires joined { AreJoined (length frame.now.tables) sifted.now.sames.items
+        joined.labels.items joined.joins.items }
+    requires clear { AreClear joined.labels.items sifted.now }
+    ensures holds { IfOk result (λ judged. IfHolds judged (Settles frame.now literals.now)) }
+    ensures clash { IfOk result (λ judged. IfClash judged (λ c.
+        is_right_leaf frame.now literals.now c.leaf ≡ true)) }
+{
+    let numbering = number_cells(alloc, &joined.labels, &sifted.firms)?;
+    match count_all(alloc, frame, &joined, &numbering, &sifted.bounds)? {
+        Counted::Leaf(leaf) => Ok(Judged::Clash(Conflict { leaf })),
+        Counted::Numbers(numbers) => {
+            judge_texts(alloc, literals, frame, joined, numbering, numbers)
+        }
+    }
+}
+
 /// An assignment with these numbers, or the leaf of a path of texts.
 fn judge_texts(
     alloc: Global,
@@ -118,9 +139,14 @@ fn judge_texts(
     joined: Joined,
     numbering: Numbering,
     numbers: Items<i128>,
-) -> Result<Judged, NoMemory> {
-    let mut system = said_texts(alloc, literals, &numbering)?;
-    system.add_sames(frame, &joined.joins, &numbering)?;
+) -> Result<Judged, NoMemory>
+    requires judged { AreJudged frame.now literals.now }
+    requires counted { IsCounted frame.now literals.now joined numbering numbers }
+    ensures holds { IfOk result (λ judged. IfHolds judged (Settles frame.now literals.now)) }
+    ensures clash { IfOk result (λ judged. IfClash judged (λ c.
+        is_right_leaf frame.now literals.now c.leaf ≡ true)) }
+{
+    let system = all_texts(alloc, literals, frame, &joined.joins, &numbering)?;
     let vars = numbering.cells.len() as u32;
     match text_classes::classes(alloc, vars, &system.facts)? {
         Classed::Path { last, facts } => Ok(Judged::Clash(Conflict {

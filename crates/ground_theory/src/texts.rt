@@ -1,6 +1,8 @@
 //! The facts about texts that literals ask for, and the Text leaf of a path of them.
 ghost use Rattle.std.specs.Prelude.{◌≡◌, ◌++◌, ◌∷◌, [], ◌≤◌, IfOk, OnOk, length};
 ghost use Rattle.lint_core.specs.declared.certificate.TextEdge.TheVariants as edge;
+ghost use Rattle.ground_theory.specs.inner.Found.{all_facts};
+ghost use Rattle.ground_theory.specs.inner.Known.{all_origins};
 ghost use Rattle.ground_theory.specs.inner.Sifting.{gathered};
 ghost use Rattle.ground_theory.specs.inner.Sums.{told, HasBothRows, HaveRoom, HaveColumns};
 ghost use Rattle.ground_theory.specs.inner.TextSystem.{end_at, said_fact, said_origin, HaveTextRoom};
@@ -24,8 +26,30 @@ pub(crate) struct TextSystem {
     pub(crate) facts: Vec<TextFact>,
 }
 
+/// What the literals say of texts, and that those of rows of one class are the same.
+pub(crate) fn all_texts(
+    alloc: Global,
+    literals: &[Literal],
+    frame: &Frame,
+    joins: &[Join],
+    numbering: &Numbering,
+) -> Result<TextSystem, NoMemory>
+    requires count { length literals.now ≤ 400000 }
+    requires room { HaveTextRoom numbering.now.places.items literals.now }
+    requires joins { HaveRoom numbering.now.places.items joins.now }
+    requires columns { HaveColumns frame.now }
+    ensures facts { IfOk result (λ s. s.facts.items
+        ≡ all_facts frame.now literals.now joins.now numbering.now) }
+    ensures origins { IfOk result (λ s. s.origins.items
+        ≡ all_origins frame.now literals.now joins.now numbering.now) }
+{
+    let mut system = said_texts(alloc, literals, numbering)?;
+    system.add_sames(frame, joins, numbering)?;
+    Ok(system)
+}
+
 /// What the literals say of texts.
-pub(crate) fn said_texts(
+fn said_texts(
     alloc: Global,
     literals: &[Literal],
     numbering: &Numbering,
@@ -98,7 +122,7 @@ impl TextSystem {
     }
 
     /// Adds that the texts of rows of one class are the same.
-    pub(crate) fn add_sames(
+    fn add_sames(
         &mut self,
         frame: &Frame,
         joins: &[Join],
