@@ -3,7 +3,6 @@ pub mod RightLeaves
 pub mod Bounds
 pub mod Rings
 pub mod SumLeaves
-pub mod Values
 pub mod Facts
 pub mod TextLeaves
 pub mod TextFacts
