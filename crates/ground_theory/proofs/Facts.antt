@@ -33,7 +33,7 @@ use Rattle.ground_theory.specs.declared.literal.Frame.{Frame}
 use Rattle.ground_theory.specs.declared.literal.Literal.{Literal}
 use Rattle.ground_theory.specs.Assignments.{domains_at}
 use Rattle.ground_theory.specs.Fitting.{is_range, has_ranges, has_domains, is_moderate, are_moderate, is_number, is_text, is_number_side, is_text_side, are_of_one_table, fits, all_fit}
-use Rattle.ground_theory.specs.Edges.{side_edges, same_edges, edges_of, edges_from, sum_edges, domain_of, stated, between, IsSystem, bound, edge_of, HasVariables}
+use Rattle.ground_theory.specs.Edges.{side_edges, same_edges, edges_of, edges_from, sum_edges, domain_of, stated, between, IsSystem, bound, edge_of}
 use Rattle.ground_theory.specs.Leaves.{literal_fact, literal_branch}
 use Rattle.ground_theory.proofs.Bounds.{Has, has_from, InRange, domain_passes, is_low_from, is_high_from, is_same_from, is_back_from, domain_is, one_table, low_of, high_of, same_of}
 use Rattle.ground_theory.proofs.Moving.{passes}
@@ -57,7 +57,7 @@ some_text None is = cc
 some_text (Some d) is = (d, refl)
 
 module _ (frame : Frame) where
-  abbrev ids : List ℕ
+  abbrev pub ids : List ℕ
   ids = below (length frame.tables)
 
   number_side : (s : Side) → is_number_side frame s ≡ true → side_at ids s ≡ Some s
@@ -82,7 +82,7 @@ module _ (frame : Frame) where
   -- ---- the atom of a literal
 
   module _ (literals : List Literal) (fact : ℕ) (l : Literal) (listed : slice_get literals fact ≡ Some l) where
-    atom_is : atom_of (literal_branch frame literals) fact ≡ atom_at ids l.atom
+    pub atom_is : atom_of (literal_branch frame literals) fact ≡ atom_at ids l.atom
     atom_is =
         ap (option_and_then (λ (x : Fact). atom_in x.rows (out-Formula x.formula))) (slice_get-map (literal_fact ids) literals fact ∙ ap (option_map (literal_fact ids)) listed)
         ∙ ap (atom_in ids) (f.outs-Atom l.atom)
@@ -184,29 +184,11 @@ module _ (frame : Frame) (literals : List Literal) (all : all_fit frame literals
   all_have : AllByRecursion HasBound (sum_edges frame literals)
   all_have = have_from 0 literals (λ k l is. let plain : k ≡ 0 + k = omega arith in subst (λ n. slice_get literals n ≡ Some l) plain is)
 
-  module _ (side_of : ℕ → Side) (number : Side → ℕ) where
-    zipped : (os : List SumEdge) → AllByRecursion HasBound os → AllByRecursion (HasVariables frame literals side_of number) os →
-        AllZip (λ o e. stated frame literals o ≡ Some (between side_of e)) os (map (edge_of frame literals number) os)
-    zipped [] has variables = tt
-    zipped (o ∷ os) has variables =
-        (has.0 ∙ ap₂ (λ (l r : Side). Some (record { left = l; right = r; most = (bound frame literals o).most })) (sym variables.0.0) (sym variables.0.1), zipped os has.1 variables.1)
-
 -- those of any part of them
 wanted_have : (frame : Frame) (literals : List Literal) → all_fit frame literals ≡ true → (origins : List SumEdge) → All (Contains (sum_edges frame literals)) origins → All (Has frame literals) origins
 wanted_have frame literals all origins wanted =
     let each = All-from_recursion (Has frame literals) (sum_edges frame literals) (all_have frame literals all) in
     All-weaker (Contains (sum_edges frame literals)) (Has frame literals) (λ o there. All-contains (Has frame literals) (sum_edges frame literals) o each there) origins wanted
-
-pub literals_make_systems : (frame : Frame) (literals : List Literal) (side_of : ℕ → Side) (number : Side → ℕ) (origins : List SumEdge) →
-    all_fit frame literals ≡ true → ((n : ℕ) → side_of n ≡ side.Zero → n ≡ 0) →
-    All (Contains (sum_edges frame literals)) origins → All (HasVariables frame literals side_of number) origins →
-    IsSystem frame literals side_of origins (map (edge_of frame literals number) origins)
-literals_make_systems frame literals side_of number origins all first wanted variables = record {
-  zero = first;
-  states = zipped frame literals all side_of number origins
-      (recursion_from_All (Has frame literals) origins (wanted_have frame literals all origins wanted))
-      (recursion_from_All (HasVariables frame literals side_of number) origins variables);
-}
 
 -- ---- bounds that are not too large
 
@@ -235,7 +217,7 @@ number_range least greatest range =
       | inr third ↦ small_range (2 ^ 63) least greatest (omega arith) third
     ]
 
-le_is : (a b : ℤ) → a ≤ℤ b → int_le a b ≡ true
+pub le_is : (a b : ℤ) → a ≤ℤ b → int_le a b ≡ true
 le_is a b h = grind (arith, ints)
 
 le_from : (a b : ℤ) → int_le a b ≡ true → a ≤ℤ b
@@ -274,7 +256,7 @@ module _ (frame : Frame) (literals : List Literal) (all : all_fit frame literals
   le_small (atom.Same row other) β small is = cc
   le_small (atom.Other row other) β small is = cc
 
-  bound_small : (o : SumEdge) (β : Bound) → stated frame literals o ≡ Some β → IsSmallBound β
+  pub bound_small : (o : SumEdge) (β : Bound) → stated frame literals o ≡ Some β → IsSmallBound β
   bound_small (edge.Fact fact) β is =
       option_and_then_some bound_in (atom_of (literal_branch frame literals) fact) β is
       (λ x at more.

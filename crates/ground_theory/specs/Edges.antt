@@ -77,9 +77,3 @@ module _ (frame : Frame) (literals : List Literal) where
 abbrev pub edge_of : Frame → List Literal → (Side → ℕ) → SumEdge → Edge
 edge_of frame literals number o =
     record { left = number (bound frame literals o).left; right = number (bound frame literals o).right; most = (bound frame literals o).most }
-
--- each side of an origin's bound has its variable
-abbrev pub HasVariables : Frame → List Literal → (ℕ → Side) → (Side → ℕ) → SumEdge → Type 0
-HasVariables frame literals side_of number o =
-    (side_of (number (bound frame literals o).left) ≡ (bound frame literals o).left)
-    × (side_of (number (bound frame literals o).right) ≡ (bound frame literals o).right)

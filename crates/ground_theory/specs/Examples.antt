@@ -1,4 +1,4 @@
--- Literals that contradict each other, for the law `worked_leaves`.
+-- Literals that contradict each other, for the law `worked_leaves`, and a frame for the tests of `judge`.
 use Rattle.std.specs.Prelude.{pos, negsuc, true, List, [], ◌∷◌}
 use Rattle.lint_core.specs.declared.schema.Domain.TheVariants as domain
 use Rattle.lint_core.specs.declared.schema.Unit.TheVariants.{Whole}
@@ -42,3 +42,7 @@ two_facts =
     record { left = end.Var 0; right = end.Text (7 ∷ []); equal = true }
     ∷ record { left = end.Var 0; right = end.Var 1; equal = true }
     ∷ record { left = end.Text (8 ∷ []); right = end.Var 1; equal = true } ∷ []
+
+-- three rows of one table, of one SMALLINT column and one of texts
+abbrev pub mixed : Frame
+mixed = record { tables = 0 ∷ 0 ∷ 0 ∷ []; domains = (domain.Number (negsuc 32767) (pos 32767) Whole ∷ domain.Text 10 ∷ []) ∷ [] }

@@ -4,9 +4,11 @@ pub mod Judging
 pub mod Leaves
 pub mod Moving
 pub mod Fitting
+pub mod Judgeable
 pub mod Edges
 pub mod SumLeaf
 pub mod Values
 pub mod TextEdges
 pub mod TextLeaf
 pub mod Examples
+pub mod inner

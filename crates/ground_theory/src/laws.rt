@@ -21,28 +21,18 @@ ghost use Rattle.text_classes.specs.Texts as classes;
 ghost use Rattle.ground_theory.specs.declared.literal.Frame.{Frame};
 ghost use Rattle.ground_theory.specs.declared.literal.Literal.{Literal};
 ghost use Rattle.ground_theory.specs.Assignments.{HasAssignment};
-ghost use Rattle.ground_theory.specs.Edges.{edge_of, edges_of, sum_edges, HasVariables, IsSystem};
+ghost use Rattle.ground_theory.specs.Edges.{edge_of, sum_edges, IsSystem};
 ghost use Rattle.ground_theory.specs.Fitting.{all_fit, are_moderate, has_domains, has_ranges};
 ghost use Rattle.ground_theory.specs.Leaves.{is_right_leaf};
 ghost use Rattle.ground_theory.specs.Moving.{moved, IsMoved};
 ghost use Rattle.ground_theory.specs.SumLeaf.{sum_leaf};
 ghost use Rattle.ground_theory.specs.TextEdges.{text_edges, texts_of, text_fact, HasEnds, IsTextSystem};
 ghost use Rattle.ground_theory.specs.TextLeaf.{text_leaf};
-ghost use Rattle.ground_theory.specs.Values.{read, IsMet, IsTextMet};
+ghost use Rattle.ground_theory.specs.Values.{IsTextMet};
 
-/// Of literals that fit, the bounds that they ask for are a system, whatever part of them is taken
-/// and however the sides are numbered.
-pub fn literals_make_systems()
-    ensures { (frame : Frame) (literals : List Literal) (side_of : ℕ → Side) (number : Side → ℕ)
-        (origins : List SumEdge) → all_fit frame literals ≡ true
-        → ((n : ℕ) → side_of n ≡ Zero → n ≡ 0)
-        → All (Contains (sum_edges frame literals)) origins
-        → All (HasVariables frame literals side_of number) origins
-        → IsSystem frame literals side_of origins (map (edge_of frame literals number) origins) }
-{}
-
-/// Where the domains are those of a schema's columns, the bounds of such a system are not too
-/// large for `solve`.
+/// Of literals that fit, the bounds that they ask for are not too large for `solve`, where the
+/// domains are those of a schema's columns, whatever part of them is taken and however the sides
+/// are numbered.
 pub fn systems_are_moderate()
     ensures { (frame : Frame) (literals : List Literal) (number : Side → ℕ)
         (origins : List SumEdge) → all_fit frame literals ≡ true → has_domains frame ≡ true
@@ -64,18 +54,6 @@ pub fn rings_make_leaves()
         → IsSystem frame literals side_of origins edges
         → IsNegativeRing edges ring → IsSimple edges ring → length ring ≤ 32769
         → is_right_leaf frame literals (sum_leaf frame literals origins ring) ≡ true }
-{}
-
-/// Values that satisfy the system's edges meet each literal whose edges are in the system: they
-/// satisfy a Le and are of its cells' domains, and are the same in rows that are one.
-pub fn values_meet_literals()
-    ensures { (frame : Frame) (literals : List Literal) (side_of : ℕ → Side) (number : Side → ℕ)
-        (vars : ℕ) (origins : List SumEdge) (edges : List Edge) (value : ℕ → ℤ)
-        → IsSystem frame literals side_of origins edges → All (IsAmong vars) edges
-        → ((n : ℕ) → n < vars → number (side_of n) ≡ n) → Satisfies value edges
-        → (fact : ℕ) (l : Literal) → slice_get literals fact ≡ Some l
-        → All (Contains origins) (edges_of frame fact l.atom)
-        → IsMet frame literals (read value number) l.atom }
 {}
 
 /// Of literals that fit, the facts about texts that they ask for are a system, whatever part of

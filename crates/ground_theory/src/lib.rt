@@ -1,32 +1,55 @@
-//! What literals say of numbered row terms, and when a closing step of a certificate is right over
-//! them.
+//! Whether literals over numbered row terms are satisfiable, and when a closing step of a
+//! certificate is right over them.
 //!
 //! The types are those of the layers above: clauses whose ways are literals, the tables and
-//! domains of row terms (`Frame`), assignments, and what literals come to (`Judged`). Whether
-//! literals are satisfiable is not decided yet by a call; the laws here are what such a call
-//! needs of the solvers below. Each function does nothing: its contract is a law.
+//! domains of row terms (`Frame`), assignments, and what literals come to (`Judged`). `judge`
+//! answers of literals an assignment that satisfies them and is plain for them, or a right leaf:
+//! a closing step that shows that there is none. A body that answers `NoMemory` at once meets its
+//! contract too, since no clause can say that memory is left: the tests show that it succeeds.
 //!
-//! The laws: from literals to the systems of `diff_bounds` and `text_classes`
-//! (`literals_make_systems`, `systems_are_moderate`, `domains_are_ranges`, `literals_make_texts`);
-//! from a solver's ring or path to a right leaf (`rings_make_leaves`, `paths_make_leaves`); from
-//! its values back to the literals (`values_meet_literals`, `texts_meet_literals`). A right leaf
+//! How `judge` goes: `sifting` lists what the literals say by kind, `joining` makes classes of the
+//! row terms that are one, and `clashes` looks for rows of one class that differ and for cells
+//! that are NULL and are not, with `paths` between them. `numbering` gives variables to the cells
+//! that are not NULL. Their numbers come from the solver of `diff_bounds` (`numbers`, `counting`;
+//! `ring` makes the leaf of a ring), their texts from that of `text_classes` (`texts`; `chains`
+//! makes the leaf of a path), and `assignment` lists the values.
+//!
+//! The laws are functions that do nothing: their contracts are about the definitions alone. What
+//! literals ask of the solvers (`systems_are_moderate`, `domains_are_ranges`,
+//! `literals_make_texts`); from a solver's ring or path to a right leaf (`rings_make_leaves`,
+//! `paths_make_leaves`); from texts back to the literals (`texts_meet_literals`). A right leaf
 //! excludes every assignment (`right_leaves_exclude`), and stays right where facts have other
 //! numbers and rows other names (`leaves_move`). `worked_leaves` are small examples.
 //!
-//! Of `specs/` a reader must believe `Assignments`, `Leaves`, `Fitting` and `Moving`; of the laws
-//! about solvers `Edges`, `SumLeaf`, `TextEdges`, `TextLeaf` and `Values` too. `Judging` says what
-//! is answered of literals and `Forward` that guards name earlier clauses: no law here cites them,
-//! the layers above do. `Examples` are the literals of `worked_leaves`.
+//! Of `specs/` a reader must believe `Assignments`, `Leaves`, `Fitting`, `Judgeable`, `Judging` and
+//! `Moving`; of the laws about solvers `Edges`, `SumLeaf`, `TextEdges`, `TextLeaf` and `Values`
+//! too. `Forward` says that guards name earlier clauses: no clause here cites it, the layers above
+//! do. `Examples` are the literals of `worked_leaves` and of the tests. `specs/inner` is cited by
+//! private clauses and proofs alone.
 #![tactic(auto)]
 
+mod assignment;
+mod chains;
+mod clashes;
+mod counting;
+mod joining;
+mod judging;
 mod laws;
 mod literal;
+mod numbering;
+mod numbers;
+mod paths;
+mod ring;
+mod sifting;
+#[cfg(test)]
+mod tests;
+mod texts;
 mod worked;
 
+pub use judging::judge;
 pub use laws::{
-    domains_are_ranges, leaves_move, literals_make_systems, literals_make_texts, paths_make_leaves,
-    right_leaves_exclude, rings_make_leaves, systems_are_moderate, texts_meet_literals,
-    values_meet_literals,
+    domains_are_ranges, leaves_move, literals_make_texts, paths_make_leaves, right_leaves_exclude,
+    rings_make_leaves, systems_are_moderate, texts_meet_literals,
 };
 pub use literal::{Assignment, Clause, Conflict, Frame, Guard, Judged, Literal};
 pub use worked::worked_leaves;

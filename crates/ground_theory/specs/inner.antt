@@ -1,0 +1,14 @@
+pub mod Joining
+pub mod Numbering
+pub mod Sifting
+pub mod Paths
+pub mod Clashes
+pub mod Sums
+pub mod Rings
+pub mod TextSystem
+pub mod Systems
+pub mod Counted
+pub mod Filling
+pub mod Deciding
+pub mod Found
+pub mod Known
