@@ -1,5 +1,5 @@
 -- Of a run that ends right each answer `always` means what `AlwaysMeans` says.
-use Rattle.std.proofs.Common.{◌≡◌, ◌∙◌, ◌+◌, ◌⊎◌, inl, inr, refl, sym, ap, subst, ℕ, zero, suc, true, List, [], ◌∷◌}
+use Rattle.std.proofs.Common.{◌≡◌, ◌∙◌, ◌+◌, inl, inr, refl, sym, ap, subst, ℕ, zero, suc, true, List, [], ◌∷◌}
 use Rattle.std.proofs.lemmas.Option.{same_Some}
 use Rattle.std.specs.Prelude.{Option, Some, None, slice_get}
 use Rattle.lint_core.specs.declared.certificate.Cert.{Cert}
