@@ -11,7 +11,7 @@ use Rattle.ground_theory.specs.declared.literal.Clause.{Clause}
 use Rattle.ground_theory.specs.declared.literal.Frame.{Frame}
 use Rattle.ground_theory.specs.declared.literal.Guard.{Guard}
 use Rattle.ground_theory.specs.declared.literal.Literal.{Literal}
-use Rattle.case_split.specs.Judgeable.{can_be_judged}
+use Rattle.ground_theory.specs.Judgeable.{can_be_judged}
 use Rattle.ground_theory.specs.Leaves.{is_right_leaf}
 use Rattle.case_split.specs.declared.state.State.{State}
 use Rattle.case_split.specs.declared.taking.Cited.{Cited}

@@ -5,7 +5,7 @@ use Rattle.std.specs.Option.{option_map_or}
 use Rattle.ground_theory.specs.declared.literal.Clause.{Clause}
 use Rattle.ground_theory.specs.declared.literal.Frame.{Frame}
 use Rattle.ground_theory.specs.declared.literal.Literal.{Literal}
-use Rattle.case_split.specs.Judgeable.{can_be_judged}
+use Rattle.ground_theory.specs.Judgeable.{can_be_judged}
 
 -- a way without literal, or whose literal can be judged
 abbrev pub is_fit : Frame → Option Literal → Bool

@@ -3,6 +3,5 @@ pub mod Cases
 pub mod Trees
 pub mod Trails
 pub mod Answers
-pub mod Judgeable
 pub mod Fitting
 pub mod inner

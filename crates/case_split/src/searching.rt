@@ -1,12 +1,11 @@
 //! The search for the first full case.
 ghost use Rattle.std.specs.Prelude.{◌≡◌, ◌≤◌, true, length, IfOk};
-ghost use Rattle.case_split.specs.Judgeable.{is_frame};
+ghost use Rattle.ground_theory.specs.Judgeable.{is_frame};
 ghost use Rattle.case_split.specs.Answers.{IsAnswer};
 ghost use Rattle.case_split.specs.Fitting.{are_fit, have_few_ways};
 ghost use Rattle.case_split.specs.inner.Entries.{IsReady, IsSpreading};
 ghost use Rattle.case_split.specs.inner.Steps.{IsAdvance};
 
-use crate::judging::Judge;
 use crate::state::{Closing, Entry, Spread, State, give_up_all};
 use crate::taking::{Settled, settle};
 use crate::tree::{Branch, CaseTree, Found};
@@ -24,9 +23,8 @@ pub(crate) enum Advance {
 
 /// Judges the literals of all ways taken together; a way of the clause is chosen next, if there is
 /// one.
-fn judge_taken<J: Judge>(
+fn judge_taken(
     alloc: Global,
-    by: &J,
     clauses: &[Clause],
     frame: &Frame,
     state: &mut State,
@@ -38,7 +36,7 @@ fn judge_taken<J: Judge>(
     requires spreading { IsSpreading clauses.now frame.now state.old (length clauses.now) fork }
     ensures { IfOk result (λ advance. IsAdvance clauses.now frame.now state.new advance) }
 {
-    match settle(alloc, by, clauses, frame, state)? {
+    match settle(alloc, clauses, frame, state)? {
         Settled::Clash(tree) => Ok(Advance::Conflict(tree)),
         Settled::Holds(assignment) => match fork {
             Some(number) => Ok(Advance::Fork(number)),
@@ -48,9 +46,8 @@ fn judge_taken<J: Judge>(
 }
 
 /// Takes what follows from the ways taken, and judges all literals together.
-fn go_on<J: Judge>(
+fn go_on(
     alloc: Global,
-    by: &J,
     clauses: &[Clause],
     frame: &Frame,
     state: &mut State,
@@ -70,7 +67,7 @@ fn go_on<J: Judge>(
             let cases = Items::new(alloc);
             Ok(Advance::Conflict(CaseTree::Split { clause, cases }))
         }
-        Spread::On(fork) => judge_taken(alloc, by, clauses, frame, state, fork),
+        Spread::On(fork) => judge_taken(alloc, clauses, frame, state, fork),
     }
 }
 
@@ -84,11 +81,9 @@ fn give_up_entries(alloc: Global, entries: Vec<Entry>) -> Result<(), NoMemory> {
 }
 
 /// The first full case, a closed tree, or the number of splits that were come to where it is above
-/// the budget; `by` decides whether literals are satisfiable. `NoMemory` where there is no memory
-/// for it.
-pub fn search<J: Judge>(
+/// the budget. `NoMemory` where there is no memory for it.
+pub fn search(
     alloc: Global,
-    by: &J,
     clauses: &[Clause],
     frame: &Frame,
     budget: u64,
@@ -102,7 +97,7 @@ pub fn search<J: Judge>(
     let mut state = State::new(alloc, clauses, frame)?;
     let mut from = 0;
     for round in 0..u64::MAX {
-        match go_on(alloc, by, clauses, frame, &mut state, from)? {
+        match go_on(alloc, clauses, frame, &mut state, from)? {
             Advance::Full(assignment) => {
                 let State {
                     chosen,

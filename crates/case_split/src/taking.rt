@@ -1,14 +1,13 @@
 //! The literals of choices, and what `judge` says of them.
 ghost use Rattle.std.specs.Prelude.{◌≡◌, ◌<◌, ◌≤◌, true, length, IfOk, OnOk};
-ghost use Rattle.case_split.specs.Judgeable.{is_frame};
+ghost use Rattle.ground_theory.specs.Judgeable.{is_frame};
 ghost use Rattle.case_split.specs.Fitting.{are_fit};
 ghost use Rattle.case_split.specs.inner.Entries.{IsSearch, entries_of};
 ghost use Rattle.case_split.specs.inner.Steps.{IsTaken, IsCited, IsSettled, IsPart, AddsLiteral};
 
-use crate::judging::Judge;
 use crate::state::State;
 use crate::tree::CaseTree;
-use ground_theory::{Assignment, Clause, Conflict, Frame, Guard, Judged, Literal};
+use ground_theory::{Assignment, Clause, Conflict, Frame, Guard, Judged, Literal, judge};
 use lint_base::{Items, NoMemory};
 use lint_core::{SameEdge, Step, SumEdge, TextEdge};
 use std::alloc::Global;
@@ -92,9 +91,8 @@ impl Taken {
 
 /// A smaller conflict: over the literals alone that the conflict cites, if they too are not
 /// satisfiable together.
-fn narrow<J: Judge>(
+fn narrow(
     alloc: Global,
-    by: &J,
     clauses: &[Clause],
     frame: &Frame,
     chosen: &[Option<u32>],
@@ -110,7 +108,7 @@ fn narrow<J: Judge>(
     let facts = cited_facts(alloc, &whole.conflict.leaf, whole.guards.as_slice().len())?;
     let part = choices_at(alloc, chosen, whole.guards.as_slice(), &facts)?;
     let taken = take_literals(alloc, clauses, frame, &part)?;
-    match by.judge(alloc, &taken.literals, frame)? {
+    match judge(alloc, &taken.literals, frame)? {
         Judged::Holds(_) => Ok(whole),
         Judged::Clash(conflict) => Ok(Cited {
             conflict,
@@ -199,9 +197,8 @@ fn cite_path(cited: &mut [bool], path: &[SameEdge]) {
 }
 
 /// What the literals of all ways taken come to.
-pub(crate) fn settle<J: Judge>(
+pub(crate) fn settle(
     alloc: Global,
-    by: &J,
     clauses: &[Clause],
     frame: &Frame,
     state: &mut State,
@@ -215,14 +212,14 @@ pub(crate) fn settle<J: Judge>(
         IsSettled clauses.now frame.now state.old state.new settled) }
 {
     let taken = take_literals(alloc, clauses, frame, &state.chosen)?;
-    match by.judge(alloc, &taken.literals, frame)? {
+    match judge(alloc, &taken.literals, frame)? {
         Judged::Holds(assignment) => Ok(Settled::Holds(assignment)),
         Judged::Clash(conflict) => {
             let whole = Cited {
                 conflict,
                 guards: taken.guards,
             };
-            let cited = narrow(alloc, by, clauses, frame, &state.chosen, whole)?;
+            let cited = narrow(alloc, clauses, frame, &state.chosen, whole)?;
             state.need(cited.guards.as_slice());
             Ok(Settled::Clash(CaseTree::Leaf {
                 conflict: cited.conflict,

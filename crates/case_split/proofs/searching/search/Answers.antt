@@ -7,7 +7,7 @@ use Rattle.case_split.proofs.Splitting.{first_full}
 use Rattle.case_split.proofs.searching.search.Goals as goal
 
 pub returns-in-Full : goal.returns-in-Full
-returns-in-Full g c =
+returns-in-Full c =
     let branch : Branch = record { choices = c.from_vec.result; assignment = c.in-Full.assignment } in
     let is : IsAdvance c.args.clauses.now c.args.frame.now c.go_on.new.state (advance.Full c.in-Full.assignment) =
     subst (λ (x : Advance). IsAdvance c.args.clauses.now c.args.frame.now c.go_on.new.state x) c.in-Full.is c.in_ok-assignment.ensures in

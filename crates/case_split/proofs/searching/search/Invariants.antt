@@ -2,4 +2,4 @@ use Rattle.case_split.specs.inner.Entries.{IsReady}
 use Rattle.case_split.proofs.searching.search.Given as goal
 
 abbrev pub invariant-loop-round : goal.invariant-loop-round
-invariant-loop-round g l = IsReady l.clauses l.frame l.state l.from
+invariant-loop-round l = IsReady l.clauses l.frame l.state l.from

@@ -2,7 +2,7 @@ use Rattle.std.proofs.Common.{◌≡◌, ◌∙◌, ◌≤◌, sym, ap, refl, su
 use Rattle.std.specs.List.{list_all}
 use Rattle.ground_theory.specs.declared.literal.Judged.{Judged}
 use Rattle.ground_theory.specs.declared.literal.Literal.{Literal}
-use Rattle.case_split.specs.Judgeable.{can_be_judged}
+use Rattle.ground_theory.specs.Judgeable.{can_be_judged}
 use Rattle.ground_theory.specs.Judging.{IfClash}
 use Rattle.ground_theory.specs.Leaves.{is_right_leaf}
 use Rattle.case_split.specs.declared.taking.Cited.{Cited}
@@ -12,19 +12,19 @@ use Rattle.case_split.proofs.Literals.{literals_fit, literals_few, cited_from}
 use Rattle.case_split.proofs.taking.narrow.Goals as goal
 
 pub judge-requires-clause-fitting : goal.judge-requires-clause-fitting
-judge-requires-clause-fitting g c =
+judge-requires-clause-fitting c =
     ap (λ (ls : List Literal). list_all (can_be_judged c.args.frame.now) ls) (c.deref-3.ensures.value ∙ c.in_ok-taken.ensures.literals) ∙
     literals_fit c.args.frame.now c.args.clauses.now c.deref-2.result.now c.requires.fitting
 
 pub judge-requires-clause-count : goal.judge-requires-clause-count
-judge-requires-clause-count g c =
+judge-requires-clause-count c =
     let size : length c.deref-3.result.now ≡ length (literals_of c.args.clauses.now c.deref-2.result.now) = ap length (c.deref-3.ensures.value ∙ c.in_ok-taken.ensures.literals) in
     let few = literals_few c.args.clauses.now c.deref-2.result.now in
     let count : length c.args.clauses.now ≤ 400000 = c.requires.count in
     omega arith
 
 pub returns-in-Clash : goal.returns-in-Clash
-returns-in-Clash g c =
+returns-in-Clash c =
     let taken = c.in_ok-taken.taken in
     let cited : Cited = record { conflict = c.in-Clash.conflict; guards = taken.guards } in
     let part : IsPart c.deref-2.result.now c.args.chosen.now = subst (λ (xs : Choices). IsPart xs c.args.chosen.now) (sym c.deref-2.ensures.value) c.in_ok-part.ensures.part in

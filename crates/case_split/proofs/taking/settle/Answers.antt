@@ -2,7 +2,7 @@ use Rattle.std.proofs.Common.{◌≡◌, ◌∙◌, ◌≤◌, ap, subst, List, 
 use Rattle.std.specs.List.{list_all}
 use Rattle.ground_theory.specs.declared.literal.Guard.{Guard}
 use Rattle.ground_theory.specs.declared.literal.Literal.{Literal}
-use Rattle.case_split.specs.Judgeable.{can_be_judged}
+use Rattle.ground_theory.specs.Judgeable.{can_be_judged}
 use Rattle.case_split.specs.declared.state.State.{State}
 use Rattle.case_split.specs.Choices.{Choices, literals_of}
 use Rattle.case_split.specs.inner.Entries.{mark_all, entries_of, IsRefuted}
@@ -13,28 +13,28 @@ use Rattle.case_split.proofs.TakingWays.{search_lengths}
 use Rattle.case_split.proofs.taking.settle.Goals as goal
 
 pub take_literals-requires-clause-length : goal.take_literals-requires-clause-length
-take_literals-requires-clause-length g c =
+take_literals-requires-clause-length c =
     ap length c.deref.ensures.value ∙ (search_lengths c.args.clauses.now c.args.frame.now c.args.state.now (entries_of c.args.state.now) c.requires.state.counted c.requires.state.has).0
 
 pub judge-requires-clause-fitting : goal.judge-requires-clause-fitting
-judge-requires-clause-fitting g c =
+judge-requires-clause-fitting c =
     ap (λ (ls : List Literal). list_all (can_be_judged c.args.frame.now) ls) (c.deref-2.ensures.value ∙ c.in_ok-taken.ensures.literals) ∙
     literals_fit c.args.frame.now c.args.clauses.now c.deref.result.now c.requires.fitting
 
 pub judge-requires-clause-count : goal.judge-requires-clause-count
-judge-requires-clause-count g c =
+judge-requires-clause-count c =
     let size : length c.deref-2.result.now ≡ length (literals_of c.args.clauses.now c.deref.result.now) = ap length (c.deref-2.ensures.value ∙ c.in_ok-taken.ensures.literals) in
     let few = literals_few c.args.clauses.now c.deref.result.now in
     let count : length c.args.clauses.now ≤ 400000 = c.requires.count in
     omega arith
 
 pub narrow-requires-clause-length : goal.narrow-requires-clause-length
-narrow-requires-clause-length g c =
+narrow-requires-clause-length c =
     ap length c.deref-in-Clash.ensures.value ∙
     (search_lengths c.args.clauses.now c.args.frame.now c.args.state.now (entries_of c.args.state.now) c.requires.state.counted c.requires.state.has).0
 
 pub returns-in_ok-cited-in-Clash-clause-settled : goal.returns-in_ok-cited-in-Clash-clause-settled
-returns-in_ok-cited-in-Clash-clause-settled g c =
+returns-in_ok-cited-in-Clash-clause-settled c =
     let s : State = c.args.state.now in
     let t : State = c.need.new.self in
     let cited = c.in_ok-cited-in-Clash.cited in
