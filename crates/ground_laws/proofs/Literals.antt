@@ -21,7 +21,7 @@ use Rattle.ground_theory.specs.declared.literal.Frame.{Frame}
 use Rattle.ground_theory.specs.declared.literal.Literal.{Literal}
 use Rattle.ground_theory.specs.Assignments.{domains_at}
 use Rattle.ground_theory.specs.Fitting as fitting
-use Rattle.case_split.specs.Judgeable.{has_cell, can_be_judged}
+use Rattle.ground_theory.specs.Judgeable.{has_cell, can_be_judged}
 use Rattle.instantiate.specs.Ground.{domains_of}
 use Rattle.ground_laws.proofs.Standing.{HasTables}
 

@@ -23,7 +23,7 @@ use Rattle.ground_theory.specs.declared.literal.Frame.{Frame}
 use Rattle.ground_theory.specs.declared.literal.Literal.{Literal}
 use Rattle.ground_theory.specs.Fitting.{has_domains}
 use Rattle.case_split.specs.Fitting.{is_fit, are_fit, have_few_ways}
-use Rattle.case_split.specs.Judgeable.{is_frame}
+use Rattle.ground_theory.specs.Judgeable.{is_frame}
 use Rattle.instantiate.specs.declared.problem.Problem.{Problem}
 use Rattle.instantiate.specs.Ground.{ways_in, domains_of}
 use Rattle.instantiate.specs.Hanging.{StandsAt, Hanging}

@@ -8,7 +8,7 @@ ghost use Rattle.sort_formula.specs.Sentences.{is_sentence};
 ghost use Rattle.sorted_skolem.specs.Graph.{IsOrder};
 ghost use Rattle.ground_theory.specs.Forward.{are_forward};
 ghost use Rattle.case_split.specs.Fitting.{are_fit, have_few_ways};
-ghost use Rattle.case_split.specs.Judgeable.{is_frame};
+ghost use Rattle.ground_theory.specs.Judgeable.{is_frame};
 ghost use Rattle.instantiate.specs.declared.problem.Problem.{Problem};
 ghost use Rattle.instantiate.specs.Cases.{IsProblem};
 ghost use Rattle.ground_laws.specs.Grounded.{IsGrounded};

@@ -7,8 +7,8 @@
 //! `sentences_have_one_order` that the live tables of sentences have at most one order.
 //!
 //! A reader must believe `specs/Grounded` (of which problems this is said) and definitions of the
-//! crates below: `Cases` of `instantiate` (what a problem is), `Judgeable` and `Fitting` of
-//! `case_split` (what can be searched), `Forward` of `ground_theory`, and `Graph` of
+//! crates below: `Cases` of `instantiate` (what a problem is), `Judgeable` of `ground_theory` and
+//! `Fitting` of `case_split` (what can be searched), `Forward` of `ground_theory`, and `Graph` of
 //! `sorted_skolem` (what an order is).
 #![tactic(auto)]
 
