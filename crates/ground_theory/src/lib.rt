@@ -5,7 +5,8 @@
 //! domains of row terms (`Frame`), assignments, and what literals come to (`Judged`). `judge`
 //! answers of literals an assignment that satisfies them and is plain for them, or a right leaf:
 //! a closing step that shows that there is none. A body that answers `NoMemory` at once meets its
-//! contract too, since no clause can say that memory is left: the tests show that it succeeds.
+//! contract too, since no clause can say that memory is left: the tests of `worked_searches` show
+//! that it succeeds.
 //!
 //! How `judge` goes: `sifting` lists what the literals say by kind, `joining` makes classes of the
 //! row terms that are one, and `clashes` looks for rows of one class that differ and for cells
@@ -24,7 +25,7 @@
 //! Of `specs/` a reader must believe `Assignments`, `Leaves`, `Fitting`, `Judgeable`, `Judging` and
 //! `Moving`; of the laws about solvers `Edges`, `SumLeaf`, `TextEdges`, `TextLeaf` and `Values`
 //! too. `Forward` says that guards name earlier clauses: no clause here cites it, the layers above
-//! do. `Examples` are the literals of `worked_leaves` and of the tests. `specs/inner` is cited by
+//! do. `Examples` are the literals of `worked_leaves` and of those tests. `specs/inner` is cited by
 //! private clauses and proofs alone.
 #![tactic(auto)]
 
@@ -41,8 +42,6 @@ mod numbers;
 mod paths;
 mod ring;
 mod sifting;
-#[cfg(test)]
-mod tests;
 mod texts;
 mod worked;
 

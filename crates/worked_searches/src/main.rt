@@ -2,6 +2,8 @@
 //! program prints what it answers of each, with its budget; the gate compares that with the page
 //! `stdout`, which was written by hand.
 //!
+//! Its tests say what `judge` answers of small lists of literals.
+//!
 //! It stands beside `sqllint`, over `case_split`, and is no part of it. Nothing stands on it, and
 //! nobody has to believe it: what it calls is proved where it stands. What no clause says, that the
 //! search jumps back over choices that no conflict uses, is seen here: without the jump the budget
@@ -9,6 +11,8 @@
 #![tactic(auto)]
 
 mod lists;
+#[cfg(test)]
+mod literals;
 
 ghost use Rattle.worked_searches.specs.Lists.{IsSearchable};
 

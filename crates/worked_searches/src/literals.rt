@@ -6,8 +6,7 @@ ghost use Rattle.sort_formula.specs.declared.formula.Atom.TheVariants as atom;
 ghost use Rattle.ground_theory.specs.Examples.{mixed};
 ghost use Rattle.ground_theory.specs.Judgeable.{can_be_judged};
 
-use crate::judging::judge;
-use crate::literal::{Frame, Judged, Literal};
+use ground_theory::{Frame, Judged, Literal, judge};
 use lint_base::{Items, NoMemory, Str};
 use lint_core::{Domain, Step, Unit, Value};
 use sort_formula::{Atom, Side};
