@@ -1,6 +1,6 @@
 -- The numbers of literals whose rows contradict nothing: what is asked of them is there, a ring of their bounds makes a right
 -- leaf, and with numbers they are counted.
-use Rattle.std.proofs.Common.{◌≡◌, ◌∙◌, sym, ap, refl, subst, ℕ, ℤ, ◌<◌, ◌≤◌, ◌+◌, true, List, length, arith}
+use Rattle.std.proofs.Common.{◌≡◌, sym, subst, ℕ, ℤ, ◌≤◌, ◌+◌, true, List, length, arith}
 use Rattle.std.specs.Prelude.{Option}
 use Rattle.lint_core.specs.declared.certificate.Step.{Step}
 use Rattle.ground_theory.specs.declared.joining.Join.{Join}
@@ -16,7 +16,7 @@ use Rattle.ground_theory.specs.Leaves.{is_right_leaf}
 use Rattle.ground_theory.specs.inner.Clashes.{AreApart, AreFirm}
 use Rattle.ground_theory.specs.inner.Counted.{AreNumbers, IsRingLeaf}
 use Rattle.ground_theory.specs.inner.Deciding.{AreClear, IsReady, all_stated}
-use Rattle.ground_theory.specs.inner.Joining.{AreJoined, AreSames}
+use Rattle.ground_theory.specs.inner.Joining.{AreJoined}
 use Rattle.ground_theory.specs.inner.Known.{AreJudged, AreSifted, IsCounted}
 use Rattle.ground_theory.specs.inner.Numbering.{AreWithin, IsNumbered}
 use Rattle.ground_theory.specs.inner.Paths.{AreRooted}

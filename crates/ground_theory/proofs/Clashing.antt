@@ -1,5 +1,5 @@
 -- The leaves of rows that contradict each other are right.
-use Rattle.std.proofs.Common.{◌≡◌, ◌∙◌, sym, ap, refl, subst, ℕ, ◌<◌, ◌*◌, ◌+◌, true, ◌&&◌, List, length, inl, inr, arith}
+use Rattle.std.proofs.Common.{◌≡◌, ◌∙◌, ap, refl, subst, ℕ, ◌<◌, true, ◌&&◌, List, length, inl, inr}
 use Rattle.std.specs.Prelude.{Some, slice_get, option_and_then}
 use Rattle.std.specs.List.{Contains}
 use Rattle.std.proofs.lemmas.Bool.{and_parts}
@@ -23,9 +23,8 @@ use Rattle.ground_theory.specs.Judgeable.{is_named_right, can_be_judged}
 use Rattle.ground_theory.specs.Leaves.{literal_branch, is_right_leaf}
 use Rattle.ground_theory.specs.inner.Clashes.{IsNamedIn, IsNullClash, IsNullLeaf, IsParted, IsSameLeaf}
 use Rattle.ground_theory.specs.inner.Deciding.{IsRowLeaf}
-use Rattle.ground_theory.specs.inner.Joining.{AreJoined, IsListed, join_at, label_at}
+use Rattle.ground_theory.specs.inner.Joining.{AreJoined, IsListed, label_at}
 use Rattle.ground_theory.specs.inner.Known.{AreJudged, AreSifted}
-use Rattle.ground_theory.specs.inner.Numbering.{AreWithin, named_at}
 use Rattle.ground_theory.specs.inner.Paths.{AreRooted}
 use Rattle.ground_theory.proofs.Entering.{fit, joins_rooted, other_from, rows_there}
 use Rattle.ground_theory.proofs.Facts.{atom_is, ids, le_there, eq_there, ne_there}

@@ -1,15 +1,13 @@
 -- What literals that can be judged name is there.
-use Rattle.std.proofs.Common.{◌≡◌, ◌∙◌, sym, ap, refl, subst, ℕ, zero, suc, ◌<◌, ◌≤◌, ◌+◌, Bool, true, false, ◌&&◌, List, [], ◌∷◌, ◌++◌, length, inl, inr, arith}
-use Rattle.std.specs.Prelude.{Option, Some, None, slice_get, slice_index_or, nat_eq, nat_lt, nat_le}
+use Rattle.std.proofs.Common.{◌≡◌, ◌∙◌, sym, ap, refl, subst, ℕ, suc, ◌<◌, ◌≤◌, ◌+◌, Bool, true, false, ◌&&◌, List, [], ◌∷◌, ◌++◌, length, arith}
+use Rattle.std.specs.Prelude.{Some, slice_get, nat_eq}
 use Rattle.std.specs.Option.{option_map_or}
 use Rattle.std.specs.List.{Contains, list_all}
-use Rattle.std.proofs.lemmas.Bool.{and_parts, and_from, leb-true}
+use Rattle.std.proofs.lemmas.Bool.{and_parts, and_from}
 use Rattle.std.proofs.lemmas.List.{length-append}
-use Rattle.std.proofs.lemmas.List.Elements.{Contains-get_or, Contains-append_cases}
+use Rattle.std.proofs.lemmas.List.Elements.{Contains-get_or}
 use Rattle.std.proofs.lemmas.Option.{slice_get_within}
-use Rattle.lint_base.proofs.Lists.{all_at, below_true}
-use Rattle.sort_formula.specs.declared.formula.Side.{Side}
-use Rattle.sort_formula.specs.declared.formula.Side.TheVariants as side
+use Rattle.lint_base.proofs.Lists.{all_at}
 use Rattle.sort_formula.specs.declared.formula.Atom.{Atom}
 use Rattle.sort_formula.specs.declared.formula.Atom.TheVariants as atom
 use Rattle.ground_theory.specs.declared.joining.Join.{Join}
@@ -17,7 +15,7 @@ use Rattle.ground_theory.specs.declared.literal.Frame.{Frame}
 use Rattle.ground_theory.specs.declared.literal.Literal.{Literal}
 use Rattle.ground_theory.specs.Fitting.{fits, all_fit, are_moderate, is_moderate, are_of_one_table, has_domains}
 use Rattle.ground_theory.specs.Judgeable.{is_frame, is_named_right, can_be_judged}
-use Rattle.ground_theory.specs.inner.Joining.{AreJoined, AreSames, IsListed, join_at}
+use Rattle.ground_theory.specs.inner.Joining.{AreJoined, AreSames, join_at}
 use Rattle.ground_theory.specs.inner.Paths.{AreRooted}
 use Rattle.ground_theory.specs.inner.Sifting.{gathered, same_of, other_of}
 use Rattle.ground_theory.proofs.Bounds.{one_table}

@@ -1,12 +1,12 @@
 -- The atoms of literals that fit stand in the branch of the literals, and each edge that they ask for states a bound.
-use Rattle.std.proofs.Common.{◌≡◌, ◌∙◌, sym, ap, ap₂, refl, subst, ℕ, suc, ℤ, ◌≤ℤ◌, ◌+◌, ◌-◌, ◌^◌, ◌≤◌, ◌<◌, Bool, true, false, ◌&&◌, ◌||◌, inl, inr, List, [], ◌∷◌, length, map, pos, neg_ℤ, arith}
+use Rattle.std.proofs.Common.{◌≡◌, ◌∙◌, sym, ap, refl, subst, ℕ, suc, ℤ, ◌≤ℤ◌, ◌+◌, ◌-◌, ◌^◌, ◌≤◌, ◌<◌, Bool, true, false, ◌&&◌, ◌||◌, inl, inr, List, [], ◌∷◌, length, map, pos, neg_ℤ, arith}
 use Rattle.std.proofs.lemmas.Bool.{and_parts, and_from, or_cases}
 use Rattle.std.proofs.lemmas.Bool.Decides.{Decides-int_eq}
 use Rattle.std.proofs.lemmas.Int.{ints}
-use Rattle.std.proofs.lemmas.List.Elements.{recursion_from_All, All-from_recursion, All-weaker, All-contains, All-map}
+use Rattle.std.proofs.lemmas.List.Elements.{All-from_recursion, All-weaker, All-contains, All-map}
 use Rattle.std.proofs.lemmas.Option.{option_and_then_some, same_Some, slice_get-map, slice_get_within}
 use Rattle.std.specs.Prelude.{Option, Some, None, All, slice_get, option_and_then, unwrap_or, nat_eq}
-use Rattle.std.specs.List.{list_all, AllByRecursion, AllZip, Contains}
+use Rattle.std.specs.List.{list_all, AllByRecursion, Contains}
 use Rattle.std.specs.Option.{option_map, option_map_or}
 use Rattle.std.specs.Ordering.{int_eq}
 use Rattle.diff_bounds.specs.System.{IsModerate}
@@ -33,7 +33,7 @@ use Rattle.ground_theory.specs.declared.literal.Frame.{Frame}
 use Rattle.ground_theory.specs.declared.literal.Literal.{Literal}
 use Rattle.ground_theory.specs.Assignments.{domains_at}
 use Rattle.ground_theory.specs.Fitting.{is_range, has_ranges, has_domains, is_moderate, are_moderate, is_number, is_text, is_number_side, is_text_side, are_of_one_table, fits, all_fit}
-use Rattle.ground_theory.specs.Edges.{side_edges, same_edges, edges_of, edges_from, sum_edges, domain_of, stated, between, IsSystem, bound, edge_of}
+use Rattle.ground_theory.specs.Edges.{side_edges, same_edges, edges_of, edges_from, sum_edges, domain_of, stated, bound, edge_of}
 use Rattle.ground_theory.specs.Leaves.{literal_fact, literal_branch}
 use Rattle.ground_theory.proofs.Bounds.{Has, has_from, InRange, domain_passes, is_low_from, is_high_from, is_same_from, is_back_from, domain_is, one_table, low_of, high_of, same_of}
 use Rattle.ground_theory.proofs.Moving.{passes}

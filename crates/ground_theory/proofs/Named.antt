@@ -1,6 +1,6 @@
 -- The cells that literals name are there.
-use Rattle.std.proofs.Common.{◌≡◌, ◌∙◌, ◌⊎◌, sym, ap, refl, subst, ℕ, ◌<◌, ◌≤◌, ◌+◌, Bool, true, false, ◌&&◌, ◌||◌, List, [], ◌∷◌, ◌++◌, length, inl, inr, arith}
-use Rattle.std.specs.Prelude.{Option, Some, None, slice_get, nat_eq, nat_lt, nat_le, option_and_then, unwrap_or}
+use Rattle.std.proofs.Common.{◌≡◌, ◌∙◌, sym, ap, refl, subst, ℕ, ◌<◌, ◌≤◌, ◌+◌, true, ◌&&◌, List, [], length, inl, inr, arith}
+use Rattle.std.specs.Prelude.{Option, Some, None, slice_get, nat_eq, nat_le, option_and_then, unwrap_or}
 use Rattle.std.specs.List.{Contains, list_all}
 use Rattle.std.proofs.lemmas.Bool.{and_parts, and_from, leb-true, or_left, or_right}
 use Rattle.std.proofs.lemmas.List.Elements.{Contains-append_cases, Contains-get_or}
@@ -17,8 +17,8 @@ use Rattle.ground_theory.specs.declared.literal.Frame.{Frame}
 use Rattle.ground_theory.specs.declared.literal.Literal.{Literal}
 use Rattle.ground_theory.specs.declared.numbering.Named.{Named}
 use Rattle.ground_theory.specs.Assignments.{domains_at}
-use Rattle.ground_theory.specs.Fitting.{fits, is_number_side, is_text_side, is_number, is_text, is_moderate, has_domains}
-use Rattle.ground_theory.specs.Judgeable.{is_frame, has_cell, is_named_right, can_be_judged}
+use Rattle.ground_theory.specs.Fitting.{fits, is_number_side, is_text_side, is_moderate, has_domains}
+use Rattle.ground_theory.specs.Judgeable.{is_frame, is_named_right, can_be_judged}
 use Rattle.ground_theory.specs.inner.Numbering.{AreWithin, named_at}
 use Rattle.ground_theory.specs.inner.Sifting.{gathered, firm_of, firm_side, null_of}
 use Rattle.ground_theory.specs.inner.Sums.{HaveColumns}

@@ -1,12 +1,12 @@
 -- A table of the cells that are NULL.
-use Rattle.std.proofs.Common.{◌≡◌, ◌≢◌, ◌∙◌, sym, ap, refl, subst, ℕ, zero, suc, ◌<◌, ◌≤◌, ◌+◌, ◌*◌, List, length, Option, Some, None, set, replicate, inl, inr, arith}
+use Rattle.std.proofs.Common.{◌≡◌, ◌≢◌, ◌∙◌, sym, ap, refl, ℕ, zero, suc, ◌<◌, ◌+◌, ◌*◌, List, length, Option, Some, None, set, replicate, inl, inr, arith}
 use Rattle.std.specs.Prelude.{slice_index_or}
 use Rattle.std.proofs.lemmas.Bool.{cases_eq}
 use Rattle.std.proofs.lemmas.List.{get_or-set_same, get_or-set_other, length-set, get_or_read, length-replicate}
 use Rattle.ground_theory.specs.declared.numbering.Named.{Named}
 use Rattle.ground_theory.specs.inner.Joining.{label_at}
 use Rattle.ground_theory.specs.inner.Numbering.{named_at, AreWithin}
-use Rattle.ground_theory.specs.inner.Clashes.{LabelsWithin, class_place, held_at, AreNulls, AreFirm, IsNullClash, IsNamedIn}
+use Rattle.ground_theory.specs.inner.Clashes.{LabelsWithin, class_place, held_at, AreNulls, AreFirm, IsNullClash}
 
 -- the place of a cell is in the table
 pub place_within : (labels : List ℕ) (named : List Named) (k : ℕ) → LabelsWithin labels → AreWithin (length labels) named → k < length named → class_place labels (named_at named k) < length labels * 64

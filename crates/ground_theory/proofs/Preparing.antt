@@ -1,10 +1,10 @@
 -- What literals that can be judged ask for is there: their cells are in the table, and their bounds and facts are not too many.
-use Rattle.std.proofs.Common.{◌≡◌, ◌∙◌, sym, ap, refl, subst, ℕ, ◌<◌, ◌≤◌, ◌+◌, ◌*◌, ◌^◌, true, ◌&&◌, List, [], ◌∷◌, ◌++◌, length, arith}
+use Rattle.std.proofs.Common.{◌≡◌, ◌∙◌, sym, ap, refl, subst, ℕ, ◌<◌, ◌≤◌, ◌+◌, ◌*◌, ◌^◌, true, List, ◌++◌, length, arith}
 use Rattle.std.specs.Prelude.{Option, Some, None, slice_get, slice_index_or, nat_le, nat_lt}
-use Rattle.std.specs.List.{All, Contains, list_all}
+use Rattle.std.specs.List.{Contains, list_all}
 use Rattle.std.proofs.lemmas.Bool.{and_parts, leb-true}
 use Rattle.std.proofs.lemmas.List.{get_or_default, length-append}
-use Rattle.std.proofs.lemmas.List.Elements.{All-from_recursion, Contains-get_or}
+use Rattle.std.proofs.lemmas.List.Elements.{Contains-get_or}
 use Rattle.std.proofs.lemmas.Option.{slice_get-get_or}
 use Rattle.lint_base.proofs.Lists.{all_at}
 use Rattle.lint_core.specs.declared.schema.Domain.{Domain}
@@ -13,8 +13,6 @@ use Rattle.sort_formula.specs.declared.formula.Side.{Side}
 use Rattle.sort_formula.specs.declared.formula.Side.TheVariants as side
 use Rattle.sort_formula.specs.declared.formula.Atom.{Atom}
 use Rattle.sort_formula.specs.declared.formula.Atom.TheVariants as atom
-use Rattle.text_classes.specs.declared.facts.TextFact.{TextFact}
-use Rattle.text_classes.specs.Texts as texts
 use Rattle.ground_theory.specs.declared.joining.Join.{Join}
 use Rattle.ground_theory.specs.declared.literal.Frame.{Frame}
 use Rattle.ground_theory.specs.declared.literal.Literal.{Literal}

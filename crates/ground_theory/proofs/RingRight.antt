@@ -1,9 +1,9 @@
 -- The leaf that is answered of a ring is right.
-use Rattle.std.proofs.Common.{◌≡◌, ◌∙◌, sym, ap, refl, subst, ℕ, zero, suc, ◌<◌, ◌≤◌, ◌+◌, true, false, List, [], ◌∷◌, length, map, arith}
-use Rattle.std.specs.Prelude.{Option, Some, slice_index_or, pos}
-use Rattle.std.specs.List.{All, Contains, AllByRecursion}
-use Rattle.std.proofs.lemmas.List.{get_or-map, length-map, get_or_default}
-use Rattle.std.proofs.lemmas.List.Elements.{All-from_recursion, recursion_from_All, Contains-get_or}
+use Rattle.std.proofs.Common.{◌≡◌, ◌∙◌, sym, ap, refl, subst, ℕ, ◌<◌, ◌≤◌, true, List, [], ◌∷◌, length, map, arith}
+use Rattle.std.specs.Prelude.{slice_index_or, pos}
+use Rattle.std.specs.List.{Contains, AllByRecursion}
+use Rattle.std.proofs.lemmas.List.{get_or-map, length-map}
+use Rattle.std.proofs.lemmas.List.Elements.{recursion_from_All, Contains-get_or}
 use Rattle.lint_core.specs.declared.certificate.Step.{Step}
 use Rattle.lint_core.specs.declared.certificate.Step.TheVariants as step
 use Rattle.lint_core.specs.declared.certificate.SumEdge.{SumEdge}
@@ -16,7 +16,7 @@ use Rattle.ground_theory.specs.Fitting.{all_fit, has_ranges}
 use Rattle.ground_theory.specs.Leaves.{is_right_leaf}
 use Rattle.ground_theory.specs.SumLeaf.{origin_at, sum_leaf, cut, turned}
 use Rattle.ground_theory.specs.inner.Counted.{edge_in, IsRingLeaf}
-use Rattle.ground_theory.specs.inner.Rings.{stated_at, chain_of, from_zero, cut_ring}
+use Rattle.ground_theory.specs.inner.Rings.{stated_at, chain_of}
 use Rattle.ground_theory.specs.inner.Systems.{variable_side, IsRight}
 use Rattle.ground_theory.proofs.Cutting.{origin, leaf_is, system_is}
 use Rattle.ground_theory.proofs.SumLeaves.{rings_make_leaves}

@@ -1,13 +1,11 @@
 -- Each edge that is listed states its bound between the sides of its variables.
-use Rattle.std.proofs.Common.{◌≡◌, ◌⊎◌, ◌∙◌, sym, ap, refl, subst, ℕ, zero, suc, ℤ, pos, neg_ℤ, ◌<◌, ◌≤◌, ◌+◌, ◌*◌, Bool, true, false, cond, List, [], ◌∷◌, ◌++◌, length, inl, inr, arith, add-one}
-use Rattle.std.specs.Prelude.{Option, Some, None, slice_get, slice_index_or, option_and_then, unwrap_or, nat_eq, if◌then◌else◌}
+use Rattle.std.proofs.Common.{◌≡◌, ◌⊎◌, ◌∙◌, sym, ap, refl, subst, ℕ, zero, suc, ℤ, pos, neg_ℤ, ◌<◌, ◌+◌, ◌*◌, Bool, true, false, List, [], ◌∷◌, ◌++◌, length, inl, inr, arith}
+use Rattle.std.specs.Prelude.{Option, Some, None, slice_get, option_and_then, unwrap_or, nat_eq, if◌then◌else◌}
 use Rattle.std.specs.List.{Contains}
-use Rattle.std.proofs.lemmas.Bool.{and_parts, cases_Bool}
+use Rattle.std.proofs.lemmas.Bool.{and_parts}
 use Rattle.std.proofs.lemmas.List.{get_or_default}
 use Rattle.std.proofs.lemmas.List.Elements.{Contains-append_cases, Contains-append_left, Contains-append_right}
-use Rattle.std.proofs.lemmas.Option.{slice_get_within, get_or_from_slice_get, slice_get-get_or}
-use Rattle.diff_bounds.specs.declared.system.Edge.{Edge}
-use Rattle.diff_bounds.specs.System.{IsAmong}
+use Rattle.std.proofs.lemmas.Option.{slice_get_within, get_or_from_slice_get}
 use Rattle.lint_base.proofs.Lists.{all_at}
 use Rattle.lint_core.specs.declared.certificate.SumEdge.{SumEdge}
 use Rattle.lint_core.specs.declared.certificate.SumEdge.TheVariants as edge
@@ -17,7 +15,7 @@ use Rattle.sort_formula.specs.declared.formula.Side.{Side}
 use Rattle.sort_formula.specs.declared.formula.Side.TheVariants as side
 use Rattle.sort_formula.specs.declared.formula.Atom.{Atom}
 use Rattle.sort_formula.specs.declared.formula.Atom.TheVariants as atom
-use Rattle.sort_formula.specs.Facts.{atom_of, same_rows_of, domain_at}
+use Rattle.sort_formula.specs.Facts.{same_rows_of}
 use Rattle.sort_formula.specs.Rings.{Bound as Stating, bound_in, low_bound, high_bound, same_bound}
 use Rattle.ground_theory.specs.declared.joining.Join.{Join}
 use Rattle.ground_theory.specs.declared.literal.Frame.{Frame}
@@ -27,11 +25,11 @@ use Rattle.ground_theory.specs.declared.numbering.Named.{Named}
 use Rattle.ground_theory.specs.declared.numbers.Stated.{Stated}
 use Rattle.ground_theory.specs.declared.sifting.Bound.{Bound}
 use Rattle.ground_theory.specs.Assignments.{domains_at}
-use Rattle.ground_theory.specs.Edges.{between, domain_of, stated}
+use Rattle.ground_theory.specs.Edges.{domain_of, stated}
 use Rattle.ground_theory.specs.Fitting.{is_number, is_number_side, fits, all_fit}
-use Rattle.ground_theory.specs.Leaves.{bare_schema, literal_branch}
+use Rattle.ground_theory.specs.Leaves.{literal_branch}
 use Rattle.ground_theory.specs.inner.Joining.{label_at, join_at}
-use Rattle.ground_theory.specs.inner.Numbering.{label_of, number_at, cell_at, named_at, IsPlaced, IsNumbering, IsNumbered}
+use Rattle.ground_theory.specs.inner.Numbering.{label_of, number_at, cell_at, named_at, IsPlaced, IsNumbered}
 use Rattle.ground_theory.specs.inner.Paths.{AreRooted}
 use Rattle.ground_theory.specs.inner.Sifting.{gathered, firm_of, firm_side, bound_of, cell_of}
 use Rattle.ground_theory.specs.inner.Sums.{told, after, variable_of, bound_stated, ranges, range_of, low_stated, high_stated, equal_stated, same_at, same_between, join_stated, HaveColumns}

@@ -1,9 +1,8 @@
 -- Each fact about texts says of its two sides what its edge says.
-use Rattle.std.proofs.Common.{◌≡◌, ◌⊎◌, ◌∙◌, sym, ap, refl, subst, ℕ, zero, suc, ◌<◌, ◌≤◌, ◌+◌, ◌*◌, Bool, true, false, List, [], ◌∷◌, ◌++◌, length, inl, inr, arith}
-use Rattle.std.specs.Prelude.{Option, Some, None, ⊤, slice_get, slice_index_or, option_and_then, unwrap_or}
-use Rattle.std.specs.List.{All, AllZip, AllByRecursion, Contains}
+use Rattle.std.proofs.Common.{◌≡◌, ◌∙◌, sym, ap, refl, subst, ℕ, suc, ◌<◌, ◌+◌, ◌*◌, Bool, true, false, List, [], ◌∷◌, ◌++◌, length, arith}
+use Rattle.std.specs.Prelude.{Option, Some, None, slice_get, option_and_then, unwrap_or}
+use Rattle.std.specs.List.{AllZip, AllByRecursion, Contains}
 use Rattle.std.proofs.lemmas.Bool.{and_parts}
-use Rattle.std.proofs.lemmas.List.{get_or_default}
 use Rattle.std.proofs.lemmas.List.Elements.{Contains-append_left, Contains-append_right}
 use Rattle.std.proofs.lemmas.Option.{slice_get_within, get_or_from_slice_get}
 use Rattle.lint_base.proofs.Lists.{all_at}
@@ -16,7 +15,7 @@ use Rattle.sort_formula.specs.declared.formula.Side.TheVariants as side
 use Rattle.sort_formula.specs.declared.formula.Atom.{Atom}
 use Rattle.sort_formula.specs.declared.formula.Atom.TheVariants as atom
 use Rattle.sort_formula.specs.Chains.{equal_sides, text_cells}
-use Rattle.sort_formula.specs.Facts.{atom_of, same_rows_of}
+use Rattle.sort_formula.specs.Facts.{same_rows_of}
 use Rattle.text_classes.specs.declared.facts.TextEnd.{TextEnd}
 use Rattle.text_classes.specs.declared.facts.TextEnd.TheVariants as end
 use Rattle.text_classes.specs.declared.facts.TextFact.{TextFact}
@@ -32,7 +31,7 @@ use Rattle.ground_theory.specs.Fitting.{is_text, is_text_side, fits, all_fit}
 use Rattle.ground_theory.specs.Leaves.{literal_branch}
 use Rattle.ground_theory.specs.TextEdges.{ends, end_side, unequal_sides, IsTextSystem}
 use Rattle.ground_theory.specs.inner.Joining.{join_at}
-use Rattle.ground_theory.specs.inner.Numbering.{number_at, cell_at, IsPlaced, IsNumbered}
+use Rattle.ground_theory.specs.inner.Numbering.{number_at, cell_at, IsNumbered}
 use Rattle.ground_theory.specs.inner.Paths.{AreRooted}
 use Rattle.ground_theory.specs.inner.Sifting.{gathered, firm_of, firm_side}
 use Rattle.ground_theory.specs.inner.Sums.{told, HaveColumns}

@@ -1,11 +1,11 @@
 -- Rows of one label are tied by the joins.
-use Rattle.std.proofs.Common.{◌≡◌, ◌∙◌, sym, ap, subst, ℕ, ◌<◌, ◌≤◌, ◌+◌, ◌*◌, List, length, arith}
+use Rattle.std.proofs.Common.{subst, ℕ, ◌<◌, List, arith}
 use Rattle.ground_theory.specs.declared.clashes.NullClash.{NullClash}
 use Rattle.ground_theory.specs.declared.joining.Join.{Join}
 use Rattle.ground_theory.specs.declared.numbering.Named.{Named}
 use Rattle.ground_theory.specs.inner.Clashes.{IsNamedIn, IsNullClash, IsParted, LabelsWithin}
 use Rattle.ground_theory.specs.inner.Joining.{AreJoined, AreSames, IsListed, join_at, label_at}
-use Rattle.ground_theory.specs.inner.Numbering.{AreWithin, named_at}
+use Rattle.ground_theory.specs.inner.Numbering.{AreWithin}
 use Rattle.ground_theory.specs.inner.Paths.{AreTied}
 use Rattle.ground_theory.proofs.Placing.{one_place}
 

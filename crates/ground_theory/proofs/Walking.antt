@@ -1,13 +1,11 @@
 -- Paths of Sames: what `classes` answers of the joins leads from the one row to the other.
-use Rattle.std.proofs.Common.{◌≡◌, ◌∙◌, sym, ap, refl, subst, ℕ, zero, suc, ◌<◌, ◌≤◌, ◌+◌, ◌⊎◌, Bool, true, false, List, [], ◌∷◌, ◌++◌, length, map, get_or, inl, inr, arith}
-use Rattle.std.specs.Prelude.{Option, Some, None, slice_get, slice_index_or}
+use Rattle.std.proofs.Common.{◌≡◌, ◌∙◌, sym, ap, refl, subst, ℕ, ◌<◌, ◌+◌, ◌⊎◌, Bool, true, false, List, [], ◌∷◌, ◌++◌, length, map, inl, inr, arith}
+use Rattle.std.specs.Prelude.{Option, Some, None}
 use Rattle.std.proofs.lemmas.Bool.{cases_eq}
 use Rattle.std.proofs.lemmas.List.{length-append, length-map, get_or_append_left, get_or-map, get_or_at, get_or_default}
 use Rattle.lint_core.specs.declared.certificate.SameEdge.{SameEdge}
-use Rattle.lint_core.specs.declared.database.Value.{Value}
 use Rattle.lint_core.specs.declared.database.Value.TheVariants as value
 use Rattle.lint_core.specs.Comparison.{is_same_text}
-use Rattle.sort_formula.specs.declared.formula.Side.{Side}
 use Rattle.sort_formula.specs.declared.formula.Side.TheVariants as side
 use Rattle.text_classes.specs.declared.facts.TextEnd.{TextEnd}
 use Rattle.text_classes.specs.declared.facts.TextEnd.TheVariants.{Var, Text}

@@ -1,7 +1,6 @@
 -- The bounds that literals ask for, each with the edge of a certificate that states it.
 use Rattle.std.specs.Prelude.{◌≡◌, ◌<◌, ◌≤◌, ◌+◌, ◌*◌, ℕ, suc, ℤ, pos, neg_ℤ, nat_eq, List, [], ◌∷◌, ◌++◌, length, Option, Some, None, MatchOption, ⊤, slice_get, if◌then◌else◌}
 use Rattle.std.specs.List.{All}
-use Rattle.diff_bounds.specs.declared.system.Edge.{Edge}
 use Rattle.lint_core.specs.declared.certificate.SumEdge.{SumEdge}
 use Rattle.lint_core.specs.declared.certificate.SumEdge.TheVariants as edge
 use Rattle.lint_core.specs.declared.schema.Domain.{Domain}

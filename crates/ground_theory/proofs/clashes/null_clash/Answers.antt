@@ -1,5 +1,3 @@
-use Rattle.std.proofs.Common.{◌≡◌, ◌≤◌, ℕ, subst, length, arith}
-use Rattle.ground_theory.specs.inner.Clashes.{AreFirm}
 use Rattle.ground_theory.proofs.Nulls.{null_found, firm_more}
 use Rattle.ground_theory.proofs.clashes.null_clash.Goals as goal
 

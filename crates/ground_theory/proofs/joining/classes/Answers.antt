@@ -1,4 +1,4 @@
-use Rattle.std.proofs.Common.{◌≡◌, ◌<◌, ℕ, sym, refl, subst, length, List, Option, arith}
+use Rattle.std.proofs.Common.{◌≡◌, refl, subst, length, List, Option, arith}
 use Rattle.ground_theory.specs.declared.joining.Join.{Join}
 use Rattle.ground_theory.specs.inner.Joining.{AreThere}
 use Rattle.ground_theory.proofs.Relabelling.{folded_more, folded_all}

@@ -1,4 +1,4 @@
-use Rattle.std.proofs.Common.{◌≡◌, ◌∙◌, ◌+◌, ◌<◌, ◌++◌, ◌∷◌, [], ℕ, subst, sym, ap, length, arith, List, Vec, Global}
+use Rattle.std.proofs.Common.{◌≡◌, ◌+◌, ℕ, subst, sym, length, arith, Vec, Global}
 use Rattle.ground_theory.specs.declared.joining.Join.{Join}
 use Rattle.ground_theory.specs.inner.Joining.{AreThere}
 use Rattle.ground_theory.proofs.Relabelling.{there_more, there_passed}

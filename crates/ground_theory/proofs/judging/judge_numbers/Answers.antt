@@ -1,10 +1,8 @@
-use Rattle.std.proofs.Common.{◌≡◌, ◌∙◌, ◌+◌, ◌≤◌, ℕ, ℤ, true, List, length, sym, refl, ap, subst}
-use Rattle.lint_core.specs.declared.certificate.Step.{Step}
+use Rattle.std.proofs.Common.{◌+◌, ◌≤◌, ℕ, List, length, sym, subst}
 use Rattle.ground_theory.specs.declared.counting.Counted.{Counted}
 use Rattle.ground_theory.specs.declared.numbering.Named.{Named}
 use Rattle.ground_theory.specs.declared.sifting.Bound.{Bound}
-use Rattle.ground_theory.specs.Leaves.{is_right_leaf}
-use Rattle.ground_theory.specs.inner.Counted.{AreNumbers, IfLeaf, IfNumbers, IsRingLeaf}
+use Rattle.ground_theory.specs.inner.Counted.{IfLeaf, IsRingLeaf}
 use Rattle.ground_theory.specs.inner.Deciding.{IsReady, all_stated}
 use Rattle.ground_theory.specs.inner.Numbering.{AreWithin, IsNumbered}
 use Rattle.ground_theory.specs.inner.Sums.{AreInRoom}

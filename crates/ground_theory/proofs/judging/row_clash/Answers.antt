@@ -1,4 +1,4 @@
-use Rattle.std.proofs.Common.{◌≡◌, ◌<◌, ◌≤◌, ℕ, List, length, subst, sym, ap, arith}
+use Rattle.std.proofs.Common.{ℕ, List, length, subst, sym}
 use Rattle.std.proofs.lemmas.Option.{MatchOption-at_some}
 use Rattle.ground_theory.specs.declared.clashes.NullClash.{NullClash}
 use Rattle.ground_theory.specs.declared.joining.Join.{Join}

@@ -1,4 +1,4 @@
-use Rattle.std.proofs.Common.{◌≡◌, ◌<◌, ℕ, sym, refl, subst, length, arith}
+use Rattle.std.proofs.Common.{◌≡◌, ℕ, refl, subst, length, arith}
 use Rattle.ground_theory.specs.inner.Numbering.{IsNumbered}
 use Rattle.ground_theory.proofs.Placing.{class_more, none_numbered}
 use Rattle.ground_theory.proofs.numbering.number_cells.Goals as goal

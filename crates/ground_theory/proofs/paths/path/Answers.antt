@@ -1,4 +1,4 @@
-use Rattle.std.proofs.Common.{◌≡◌, ◌∙◌, ◌<◌, ℕ, sym, refl, subst, length, List, arith}
+use Rattle.std.proofs.Common.{◌∙◌, ℕ, sym, subst, List}
 use Rattle.std.specs.List.{All}
 use Rattle.text_classes.specs.declared.facts.TextFact.{TextFact}
 use Rattle.text_classes.specs.Texts.{IsAmong, Satisfies}

@@ -1,14 +1,13 @@
-use Rattle.std.proofs.Common.{◌≡◌, ◌∙◌, ◌⊎◌, ◌<◌, ◌+◌, ◌++◌, ◌∷◌, [], ℕ, Bool, true, false, List, sym, refl, subst, ap, length, drop, get_or, inl, inr, arith}
+use Rattle.std.proofs.Common.{◌≡◌, ◌⊎◌, ◌+◌, ℕ, Bool, true, false, List, sym, subst, ap, drop, get_or, inl, inr}
 use Rattle.std.specs.Prelude.{not, nat_eq}
 use Rattle.std.proofs.lemmas.Bool.{eq-eqb, ne_eqb}
 use Rattle.std.proofs.lemmas.List.{drop_more}
 use Rattle.lint_core.specs.declared.certificate.SameEdge.{SameEdge}
 use Rattle.text_classes.specs.declared.facts.TextEnd.TheVariants.{Var}
 use Rattle.text_classes.specs.Paths.{Leads}
-use Rattle.ground_theory.specs.declared.joining.Join.{Join}
 use Rattle.ground_theory.specs.inner.Joining.{join_at}
 use Rattle.ground_theory.specs.inner.Paths.{LeadsBy, row_facts}
-use Rattle.ground_theory.proofs.Walking.{walk_more, first_listed}
+use Rattle.ground_theory.proofs.Walking.{walk_more}
 use Rattle.ground_theory.proofs.paths.walk.Goals as goal
 use Rattle.ground_theory.proofs.paths.walk.Goals.{then-back, else-back}
 

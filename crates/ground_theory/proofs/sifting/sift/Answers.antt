@@ -1,5 +1,5 @@
-use Rattle.std.proofs.Common.{◌≡◌, ◌∙◌, ◌<◌, ℕ, sym, refl, length, get_or, arith}
-use Rattle.ground_theory.specs.inner.Sifting.{gathered, same_of, other_of, null_of, firm_of, bound_of}
+use Rattle.std.proofs.Common.{◌≡◌, ◌<◌, sym, length, get_or}
+use Rattle.ground_theory.specs.inner.Sifting.{same_of, other_of, null_of, firm_of, bound_of}
 use Rattle.ground_theory.proofs.Gathering.{gathered_more}
 use Rattle.ground_theory.proofs.sifting.sift.Goals as goal
 

@@ -1,4 +1,4 @@
-use Rattle.std.proofs.Common.{◌≡◌, ◌∙◌, ◌<◌, ◌≢◌, sym, refl, length, arith}
+use Rattle.std.proofs.Common.{◌≡◌, ◌∙◌, sym, refl, length}
 use Rattle.std.proofs.lemmas.List.{get_or_read}
 use Rattle.ground_theory.specs.inner.Joining.{label_at}
 use Rattle.ground_theory.proofs.Relabelling.{joined, same_already}

@@ -1,7 +1,6 @@
-use Rattle.std.proofs.Common.{◌≡◌, ◌∙◌, ◌<◌, ◌+◌, ◌*◌, ℕ, sym, refl, ap, subst, length, List, Some, set, arith}
+use Rattle.std.proofs.Common.{◌≡◌, ◌<◌, ◌+◌, ◌*◌, ℕ, sym, subst, length, List, Some, set, arith}
 use Rattle.ground_theory.specs.declared.numbering.Cell.{Cell}
 use Rattle.ground_theory.specs.inner.Numbering.{IsAdded}
-use Rattle.std.specs.Prelude.{not, is_some, true, false}
 use Rattle.ground_theory.proofs.Placing.{added, there_already, none_read, some_read}
 use Rattle.ground_theory.proofs.numbering.Numbering.add.Goals as goal
 

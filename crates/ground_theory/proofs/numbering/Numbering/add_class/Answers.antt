@@ -1,6 +1,6 @@
-use Rattle.std.proofs.Common.{◌≡◌, ◌<◌, ◌+◌, ℕ, sym, refl, subst, length, arith}
+use Rattle.std.proofs.Common.{◌+◌, sym, subst}
 use Rattle.ground_theory.specs.declared.numbering.Numbering.{Numbering}
-use Rattle.ground_theory.specs.inner.Numbering.{IsClassAdded, label_of}
+use Rattle.ground_theory.specs.inner.Numbering.{IsClassAdded}
 use Rattle.ground_theory.proofs.Placing.{added_more, passed_more}
 use Rattle.ground_theory.proofs.numbering.Numbering.add_class.Goals as goal
 use Rattle.ground_theory.proofs.numbering.Numbering.add_class.Goals.{then-labels-other+in_ok-add, else-labels-other}
