@@ -7,3 +7,8 @@ pub mod FirstFound
 pub mod Ranks
 pub mod Places
 pub mod Fitting
+pub mod Leads
+pub mod Refuting
+pub mod Walks
+pub mod Pairs
+pub mod Found

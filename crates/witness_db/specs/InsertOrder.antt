@@ -1,7 +1,7 @@
 -- In which order the rows of tables are inserted, so that no row comes before those that it refers to: again and again the first table in
 -- schema order all of whose targets are written. Where foreign keys lead from a table back to itself, tables are left over at some point; then all
 -- tables come in schema order.
-use Rattle.std.specs.Prelude.{ℕ, zero, suc, Bool, false, ◌&&◌, not, nat_eq, List, [], ◌∷◌, ◌++◌, length, Option, Some, None, slice_get, if◌then◌else◌}
+use Rattle.std.specs.Prelude.{ℕ, zero, suc, Bool, false, ◌&&◌, not, nat_eq, List, [], ◌∷◌, ◌++◌, length, slice_get, if◌then◌else◌}
 use Rattle.std.specs.List.{filter, list_any, list_all}
 use Rattle.std.specs.Option.{option_map_or}
 use Rattle.lint_core.specs.declared.schema.ForeignKey.{ForeignKey}

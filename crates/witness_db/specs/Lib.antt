@@ -1,4 +1,5 @@
 pub mod InsertText
 pub mod InsertOrder
+pub mod Leading
 pub mod Examples
 pub mod inner
