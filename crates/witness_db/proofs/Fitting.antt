@@ -1,5 +1,5 @@
 -- A database of the domains fits the schema.
-use Rattle.std.proofs.Common.{◌≡◌, ap₂, refl, suc, Bool, true, ◌&&◌, List, [], ◌∷◌, length, arith}
+use Rattle.std.proofs.Common.{◌≡◌, ap₂, refl, true, ◌&&◌, List, [], ◌∷◌, length, arith}
 use Rattle.std.proofs.lemmas.Bool.Decides.{nat_tests}
 use Rattle.std.specs.Prelude.{nat_eq}
 use Rattle.lint_base.proofs.Lists.{both_left, both_right}

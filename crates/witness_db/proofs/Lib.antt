@@ -4,3 +4,8 @@ pub mod Axioms
 pub mod Ranks
 pub mod Places
 pub mod Fitting
+pub mod Leads
+pub mod Refuting
+pub mod Walks
+pub mod Pairs
+pub mod Found

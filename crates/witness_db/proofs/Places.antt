@@ -1,9 +1,9 @@
 -- The rows that are made of the row terms of a full case are those of its database.
-use Rattle.std.proofs.Common.{◌≡◌, ◌∙◌, sym, ap, ap₂, refl, subst, ℕ, ◌<◌, ◌≤◌, ◌⊎◌, inl, inr, Bool, true, false, ◌&&◌, List, [], ◌∷◌, length, map, arith}
+use Rattle.std.proofs.Common.{◌≡◌, ◌∙◌, sym, ap, ap₂, refl, subst, ℕ, ◌<◌, ◌≤◌, ◌⊎◌, inl, inr, Bool, true, false, ◌&&◌, List, [], length, map, arith}
 use Rattle.std.proofs.lemmas.Bool.{and_parts, and_from, eqb-true}
 use Rattle.std.proofs.lemmas.Bool.Decides.{nat_tests}
 use Rattle.std.proofs.lemmas.List.{length-map}
-use Rattle.std.proofs.lemmas.Option.{same_Some, slice_get_within, slice_get_past, slice_get-map}
+use Rattle.std.proofs.lemmas.Option.{same_Some, slice_get_within, slice_get_past}
 use Rattle.std.specs.Prelude.{◌↔◌, Option, Some, None, slice_get, nat_eq, nat_lt, nat_le, option_and_then, unwrap_or, if◌then◌else◌}
 use Rattle.std.specs.List.{filter, list_all}
 use Rattle.std.specs.Option.{option_map, option_map_or}
@@ -13,7 +13,7 @@ use Rattle.lint_core.specs.declared.database.Row.{Row}
 use Rattle.lint_core.specs.declared.schema.Column.{Column}
 use Rattle.lint_core.specs.declared.schema.Domain.{Domain}
 use Rattle.lint_core.specs.declared.schema.Table.{Table}
-use Rattle.lint_core.specs.Database.{Place, below, rows_of}
+use Rattle.lint_core.specs.Database.{below, rows_of}
 use Rattle.sorted_skolem.specs.declared.term.RowTerm.{RowTerm}
 use Rattle.ground_theory.specs.declared.literal.Assignment.{Assignment}
 use Rattle.ground_theory.specs.declared.literal.Frame.{Frame}
@@ -26,7 +26,7 @@ use Rattle.instantiate.specs.Cases.{IsProblem, IsCells, IsDatabaseOf, is_present
 use Rattle.instantiate.specs.Ground.{maker_of}
 use Rattle.instantiate.specs.Hanging.{keys_of_problem}
 use Rattle.instantiate.specs.Keys.{number_of}
-use Rattle.instantiate.proofs.Layers.{at_map, map_at}
+use Rattle.instantiate.proofs.Layers.{at_map}
 use Rattle.instantiate.proofs.TermLists.{at_below, length_below, filtered_at}
 use Rattle.witness_db.specs.inner.Placing.{is_chosen_at, is_there, is_alike, first_of, first_at, leads, rank, place_at, row_of, rows_in}
 use Rattle.witness_db.proofs.Ranks.{head, ranked, alike_below, fused}

@@ -75,19 +75,19 @@ module _ (problem : Problem) (hanging : Hanging problem) (choices : Choices) (fu
     (db : Database) (places : List (Option ℕ)) (is_database : IsDatabaseOf problem choices a db places) where
   -- ---- choices
 
-  abbrev Taken : ℕ → Type 0
+  abbrev pub Taken : ℕ → Type 0
   Taken clause = (way : ℕ) × (slice_get choices clause ≡ Some (Some way))
 
   -- the way that is taken is one of the clause's
-  legal_way : (clause way : ℕ) (c : Clause) → slice_get problem.clauses clause ≡ Some c → slice_get choices clause ≡ Some (Some way) → nat_lt way (length c.ways) ≡ true
+  pub legal_way : (clause way : ℕ) (c : Clause) → slice_get problem.clauses clause ≡ Some c → slice_get choices clause ≡ Some (Some way) → nat_lt way (length c.ways) ≡ true
   legal_way clause way c at chosen =
       legal_is_way (is_reached (take clause choices) c) c way (choice_at [] problem.clauses choices clause c (Some way) full.case.legal at chosen)
 
-  chosen_way : (clause way : ℕ) → slice_get choices clause ≡ Some (Some way) → is_chosen choices (at_way clause way) ≡ true
+  pub chosen_way : (clause way : ℕ) → slice_get choices clause ≡ Some (Some way) → is_chosen choices (at_way clause way) ≡ true
   chosen_way clause way at = ap (λ o. option_map_or (takes way) o false) at ∙ same_number way way refl
 
   -- one way: the first
-  first_way : (clause : ℕ) (layer : Formula-F Formula) (vs : List ℕ) → StandsAt problem clause layer vs → length (ways_in vs layer) ≡ 1 → Taken clause →
+  pub first_way : (clause : ℕ) (layer : Formula-F Formula) (vs : List ℕ) → StandsAt problem clause layer vs → length (ways_in vs layer) ≡ 1 → Taken clause →
       is_chosen choices (at_way clause 0) ≡ true
   first_way clause layer vs stands one taken =
       let c = hanging.listed clause layer vs stands in
@@ -97,14 +97,14 @@ module _ (problem : Problem) (hanging : Hanging problem) (choices : Choices) (fu
       chosen_way clause 0 (taken.1 ∙ ap (λ n. Some (Some n)) none)
 
   -- a clause whose guards are chosen is taken
-  taken_by : (clause : ℕ) (layer : Formula-F Formula) (vs : List ℕ) → StandsAt problem clause layer vs → list_all (is_chosen choices) (guards_at problem clause) ≡ true → Taken clause
+  pub taken_by : (clause : ℕ) (layer : Formula-F Formula) (vs : List ℕ) → StandsAt problem clause layer vs → list_all (is_chosen choices) (guards_at problem clause) ≡ true → Taken clause
   taken_by clause layer vs stands chosen =
       let c = hanging.listed clause layer vs stands in
       let same : guards_at problem clause ≡ c.0.guards = ap (λ o. option_map_or (λ (x : Clause). x.guards) o []) c.1 in
       let way = way_taken problem.clauses problem.frame hanging.forward choices full clause c.0 c.1 (subst (λ (gs : List Guard). list_all (is_chosen choices) gs ≡ true) same chosen) in
       (way.0, way.1)
 
-  one_chosen : (g : Guard) (gs : List Guard) → gs ≡ g ∷ [] → is_chosen choices g ≡ true → list_all (is_chosen choices) gs ≡ true
+  pub one_chosen : (g : Guard) (gs : List Guard) → gs ≡ g ∷ [] → is_chosen choices g ≡ true → list_all (is_chosen choices) gs ≡ true
   one_chosen g gs is chosen = ap (list_all (is_chosen choices)) is ∙ and_from (is_chosen choices g) true chosen refl
 
   two_chosen : (g h : Guard) (gs : List Guard) → gs ≡ g ∷ h ∷ [] → is_chosen choices g ≡ true → is_chosen choices h ≡ true → list_all (is_chosen choices) gs ≡ true
@@ -113,7 +113,7 @@ module _ (problem : Problem) (hanging : Hanging problem) (choices : Choices) (fu
 
   -- ---- rows
 
-  abbrev IsThere : ℕ → Type 0
+  abbrev pub IsThere : ℕ → Type 0
   IsThere row = (is_present problem choices row ≡ true) × ((t : RowTerm) × (slice_get problem.rows.terms row ≡ Some t))
 
   abbrev AreThere : List ℕ → Type 0
@@ -127,7 +127,7 @@ module _ (problem : Problem) (hanging : Hanging problem) (choices : Choices) (fu
   there_last (r ∷ rows) row all one = (all.0, there_last rows row all.1 one)
 
   -- the row of an Exists that is taken is there
-  made_there : (row maker table : ℕ) → IsMaker problem row maker table → Taken maker → IsThere row
+  pub made_there : (row maker table : ℕ) → IsMaker problem row maker table → Taken maker → IsThere row
   made_there row maker table is taken =
       let at : slice_get choices (number_of (keys_of_problem problem) (maker_of is.term)) ≡ Some (Some taken.0) = ap (slice_get choices) is.is_number ∙ taken.1 in (
         ap (λ o. option_map_or (λ (t : RowTerm). is_taken problem choices (maker_of t)) o false) is.is_term
@@ -141,7 +141,7 @@ module _ (problem : Problem) (hanging : Hanging problem) (choices : Choices) (fu
   taken_if (Some (Some way)) is = (way, refl)
 
   -- the Exists of a row that is there is taken
-  maker_taken : (row maker table : ℕ) → IsMaker problem row maker table → is_present problem choices row ≡ true → Taken maker
+  pub maker_taken : (row maker table : ℕ) → IsMaker problem row maker table → is_present problem choices row ≡ true → Taken maker
   maker_taken row maker table is present =
       let now : is_taken problem choices (maker_of is.term) ≡ true = sym (ap (λ o. option_map_or (λ (t : RowTerm). is_taken problem choices (maker_of t)) o false) is.is_term) ∙ present in
       let at = taken_if (slice_get choices (number_of (keys_of_problem problem) (maker_of is.term))) now in

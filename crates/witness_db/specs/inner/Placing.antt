@@ -5,7 +5,7 @@ use Rattle.std.specs.Option.{option_map, option_map_or}
 use Rattle.lint_core.specs.declared.database.Row.{Row}
 use Rattle.lint_core.specs.Database.{below}
 use Rattle.ground_theory.specs.declared.literal.Assignment.{Assignment}
-use Rattle.ground_theory.specs.Assignments.{are_one, cells_at}
+use Rattle.ground_theory.specs.Assignments.{cells_at}
 
 -- a way of the clause is chosen
 abbrev pub is_chosen_at : List (Option ℕ) → ℕ → Bool
