@@ -5,12 +5,8 @@
 //! texts may stand there) and `CertFile` (the text of a file, which certificates a file has, and
 //! why it has none). What JSON is they leave to `read` and `compact_text` of `serde_json`.
 //!
-//! The law `files_have_one_reading` is the contract of a function that does nothing: bytes are a
-//! file of one list of certificates at most, or refused for one fault.
-//!
-//! Of wrong bodies the contracts let through only those that answer `NoMemory` though there is
-//! memory, since no clause can say when memory ends: the tests show that files are written and
-//! read.
+//! The laws are contracts of functions that do nothing: a file has one list of certificates, and
+//! bytes that are refused have none.
 #![tactic(auto)]
 
 mod certs;
