@@ -48,14 +48,14 @@ module _ (schema : List Table) (problem : Problem) (is_problem : IsProblem schem
   abbrev num : Key → ℕ
   num k = number outlines order terms k
 
-  all_terms : AreTerms outlines order terms
+  pub all_terms : AreTerms outlines order terms
   all_terms = subst (AreTerms outlines order) (sym is_problem.terms) (terms_are problem.sentences order is_problem.order)
 
   -- a node stands at the key, with the variables' rows
-  record Sits (k : Key) (x : Node) : Type 0 where
-    listed_key : Among ks k
-    stands : node_at outlines k.sentence k.node ≡ Some x
-    rows : AreRows terms (forall_tables x) k.rows
+  pub record Sits (k : Key) (x : Node) : Type 0 where
+    pub listed_key : Among ks k
+    pub stands : node_at outlines k.sentence k.node ≡ Some x
+    pub rows : AreRows terms (forall_tables x) k.rows
 
   sits : (k : Key) (x : Node) → node_at outlines k.sentence k.node ≡ Some x → AreRows terms (forall_tables x) k.rows → Sits k x
   sits k x stands rows = record {
@@ -73,7 +73,7 @@ module _ (schema : List Table) (problem : Problem) (is_problem : IsProblem schem
       subst (Sits k) (same_Some own.0 x (sym own.1.stands ∙ stands)) own.1
 
   -- a key that stands at a place
-  sits_clause : (clause : ℕ) (k : Key) (x : Node) → slice_get ks clause ≡ Some k → node_at outlines k.sentence k.node ≡ Some x → Sits k x × (num k ≡ clause)
+  pub sits_clause : (clause : ℕ) (k : Key) (x : Node) → slice_get ks clause ≡ Some k → node_at outlines k.sentence k.node ≡ Some x → Sits k x × (num k ≡ clause)
   sits_clause clause k x at stands = (sits_at k x (among_at ks clause k at) stands, number_at outlines order terms clause k at)
 
   abbrev clause_for : Key → Node → Clause
@@ -94,12 +94,12 @@ module _ (schema : List Table) (problem : Problem) (is_problem : IsProblem schem
   standing k x layer variables own is_layer are =
       record { key = k; node = x; is_key = at_number outlines order terms k own.listed_key; is_node = own.stands; is_layer = is_layer; are_variables = are }
 
-  count_of : (k : Key) (x : Node) → Sits k x → length k.rows ≡ length (tables_in x.around)
+  pub count_of : (k : Key) (x : Node) → Sits k x → length k.rows ≡ length (tables_in x.around)
   count_of k x own = rows_count terms (tables_in x.around) k.rows own.rows
 
   -- ---- guards
 
-  guards_are : (k : Key) (x : Node) → Sits k x → guards_at problem (num k) ≡ guards_of outlines order terms k x
+  pub guards_are : (k : Key) (x : Node) → Sits k x → guards_at problem (num k) ≡ guards_of outlines order terms k x
   guards_are k x own = ap (λ o. option_map_or (λ (c : Clause). c.guards) o []) (clause_there (num k) k x (at_number outlines order terms k own.listed_key) own.stands)
 
   below_guards : (k : Key) (x p : Node) (way : Way) → x.above ≡ Some way → node_at outlines k.sentence way.node ≡ Some p → guards_of outlines order terms k x ≡ guards_below outlines order terms k way p
@@ -212,7 +212,7 @@ module _ (schema : List Table) (problem : Problem) (is_problem : IsProblem schem
   in_frame : (row : ℕ) (t : RowTerm) → slice_get terms row ≡ Some t → slice_get problem.frame.tables row ≡ Some t.table
   in_frame row t at = ap (λ (f : Frame). slice_get f.tables row) is_problem.frame ∙ at_map (λ (t : RowTerm). t.table) terms row t at
 
-  maker_is : (row : ℕ) (t : RowTerm) (table : ℕ) → slice_get terms row ≡ Some t → t.table ≡ table → IsMaker problem row (num (maker_of t)) table
+  pub maker_is : (row : ℕ) (t : RowTerm) (table : ℕ) → slice_get terms row ≡ Some t → t.table ≡ table → IsMaker problem row (num (maker_of t)) table
   maker_is row t table at same =
       let own = term_sits row t at in
       subst (IsMaker problem row (num (maker_of t))) same (record {
@@ -364,11 +364,11 @@ module _ (schema : List Table) (problem : Problem) (is_problem : IsProblem schem
         let g = in_outline problem.sentences a.sentence a.node p own.stands in
         to_outline problem.sentences a.sentence c.0 g.0 c.1 g.1 (at_parts g.0 a.node p c g.2 part)
 
-    plain_sits : (c : Numbered) → Among (parts_of a.node p) c → forall_in p.layer ≡ false → Sits (child a c.0) c.1
+    pub plain_sits : (c : Numbered) → Among (parts_of a.node p) c → forall_in p.layer ≡ false → Sits (child a c.0) c.1
     plain_sits c part same =
         sits (child a c.0) c.1 (part_stands c part) (subst (λ ts. AreRows terms ts a.rows) (sym (tables_plain a.node p.around p.layer c part same)) own.rows)
 
-    part_guards : (c : Numbered) (way : ℕ) → Among (parts_of a.node p) c → forall_in p.layer ≡ false → c.1.above ≡ Some (record { node = a.node; way = way }) →
+    pub part_guards : (c : Numbered) (way : ℕ) → Among (parts_of a.node p) c → forall_in p.layer ≡ false → c.1.above ≡ Some (record { node = a.node; way = way }) →
         guards_at problem (num (child a c.0)) ≡ at_way (num a) way ∷ []
     part_guards c way part same above = guards_plain (child a c.0) c.1 p (record { node = a.node; way = way }) (plain_sits c part same) above own.stands same
 
@@ -514,7 +514,7 @@ module _ (schema : List Table) (problem : Problem) (is_problem : IsProblem schem
 
   -- ---- roots
 
-  root_sits : (sentence : ℕ) (formula : Formula) → slice_get problem.sentences sentence ≡ Some formula → Sits (key_of sentence 0 []) (root_of formula)
+  pub root_sits : (sentence : ℕ) (formula : Formula) → slice_get problem.sentences sentence ≡ Some formula → Sits (key_of sentence 0 []) (root_of formula)
   root_sits sentence formula is = sits (key_of sentence 0 []) (root_of formula) (to_outline problem.sentences sentence 0 formula (root_of formula) is (at_root formula)) tt
 
   abbrev root_at : (sentence : ℕ) (formula : Formula) → slice_get problem.sentences sentence ≡ Some formula → IsRoot problem sentence (num (key_of sentence 0 []))

@@ -1,6 +1,7 @@
 pub mod Numbering
 pub mod Layers
 pub mod Hung
+pub mod Plain
 pub mod Sampled
 pub mod Flattening
 pub mod TermLists

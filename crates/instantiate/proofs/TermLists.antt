@@ -114,7 +114,7 @@ in_product (r ∷ firsts) lists (suc place) at row list one two =
     (get_behind here rest (place * length lists + at) ∙ in_product firsts lists place at row list one two)
 
 -- the place of what passes a test
-filtered_at : (test : ℕ → Bool) (n k : ℕ) → k < n → test k ≡ true → slice_get (filter test (below n)) (length (filter test (below k))) ≡ Some k
+pub filtered_at : (test : ℕ → Bool) (n k : ℕ) → k < n → test k ≡ true → slice_get (filter test (below n)) (length (filter test (below k))) ≡ Some k
 filtered_at test zero k low passes = absurd (omega arith)
 filtered_at test (suc n) k low passes =
     elim (last_or n k low) [

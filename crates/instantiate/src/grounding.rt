@@ -47,7 +47,7 @@ impl From<NoMemory> for GroundStop {
 
 /// What the numbers of the clauses are found from. `ManyNodes` exactly where there are more than
 /// 400,000.
-fn listing<'a>(
+pub(crate) fn listing<'a>(
     alloc: Global,
     sentences: &'a [Sentence],
     order: &'a [u32],

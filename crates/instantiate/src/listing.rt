@@ -59,7 +59,7 @@ fn are_same(rows: &[u32], others: &[u32]) -> bool
 
 /// The number of the row term that an Exists asks for at row terms; past the end where it asks for
 /// none.
-pub(crate) fn term_number(terms: &[RowTerm], sentence: usize, node: usize, rows: &[u32]) -> u32
+pub fn term_number(terms: &[RowTerm], sentence: usize, node: usize, rows: &[u32]) -> u32
     requires { length terms.now ≤ 512 }
     ensures { result ≡ term_number terms.now
         (record { sentence = sentence; node = node; rows = rows.now }) }
