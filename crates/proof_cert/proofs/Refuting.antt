@@ -60,7 +60,7 @@ module _ (schema : List Table) (problem : Problem) (hanging : Hanging problem) w
   Reached b facts rows guards clause =
       (c : Branch) × ((more : Pairs) × Grounded problem c more rows guards × IsKnown more clause × (Refuted c → Refuted b))
 
-  opened_is : (b : Branch) (f : ℕ) (named : List ℕ) (g : Formula) (layer : Formula-F Formula) →
+  pub opened_is : (b : Branch) (f : ℕ) (named : List ℕ) (g : Formula) (layer : Formula-F Formula) →
       (children_of : Branch → List ℕ → Formula-F Formula → Option (List Branch)) → slice_get b.facts f ≡ Some (fact_of named g) → out-Formula g ≡ layer →
       opened b f children_of ≡ children_of b named layer
   opened_is b f named g layer children_of at is =
@@ -75,7 +75,7 @@ module _ (schema : List Table) (problem : Problem) (hanging : Hanging problem) w
   second_among : (guards : List Guard) (g h : Guard) (gs : List Guard) → are_among guards (g ∷ h ∷ gs) ≡ true → is_among guards h ≡ true
   second_among guards g h gs all = first_among guards h gs (and_parts (is_among guards g) (are_among guards (h ∷ gs)) all).1
 
-  at_row_is : (row table : ℕ) (body : Formula) (b : Branch) (named : List ℕ) → slice_get b.tables row ≡ Some table →
+  pub at_row_is : (row table : ℕ) (body : Formula) (b : Branch) (named : List ℕ) → slice_get b.tables row ≡ Some table →
       at_row row b named (Formula-F.Forall table body) ≡ Some (with_facts b (fact_of (named ++ row ∷ []) body ∷ []) ∷ [])
   at_row_is row table body b named at =
       let test : option_map_or (nat_eq table) (slice_get b.tables row) false ≡ true = ap (λ o. option_map_or (nat_eq table) o false) at ∙ same_number table in
