@@ -30,7 +30,7 @@ use Rattle.instantiate.specs.Ground.{keys, maker_of, rows_along, variables_of, w
 use Rattle.instantiate.specs.Cases.{IsProblem}
 use Rattle.instantiate.specs.Hanging.{StandsAt, guards_at, at_way, IsMaker, IsRoot, HangsBelow, Hangs, root, below, inside, AreParts, HasRow, Below, Hanging}
 use Rattle.instantiate.proofs.Numbering.{key_of, stage_at, key_placed, placed_key, number, at_number, number_at, number_low, term_at, place_low, place_high, stage_within, stage_over, stage_more}
-use Rattle.instantiate.proofs.Layers.{at_map, map_at, count_last, take_front, chosen, passed_by, tables_in, tables_last, rows_count, rows_last, no_rows, rows_parted, along_last, along_count, listed_around, tables_plain, forall_layer, exists_layer, listed_at, atom_below, in_outline, to_outline, forward_from}
+use Rattle.instantiate.proofs.Layers.{at_map, map_at, count_last, take_front, chosen, passed_by, tables_in, tables_last, rows_count, rows_last, no_rows, rows_parted, along_last, along_count, listed_around, tables_plain, forall_layer, exists_layer, listed_at, listed_ascend, atom_below, in_outline, to_outline, forward_from}
 
 module _ (schema : List Table) (problem : Problem) (is_problem : IsProblem schema problem) where
   abbrev outlines : List (List Node)
@@ -451,6 +451,24 @@ module _ (schema : List Table) (problem : Problem) (is_problem : IsProblem schem
           under_forall a p table body row is.term own layer is.is_term c.1 refl here ∙ ap (λ n. at_way (num a) 0 ∷ at_way n 0 ∷ []) is.is_number,
         )
 
+    -- the clauses of an And's parts have ever greater numbers
+    parts_ascend : (gs : List Formula) → p.layer ≡ Formula-F.And gs → (i j c d : ℕ) → i < j →
+        slice_get (clauses_of_parts (listed false a.node 0 (suc a.node) p.around gs)) i ≡ Some c → slice_get (clauses_of_parts (listed false a.node 0 (suc a.node) p.around gs)) j ≡ Some d → c < d
+    parts_ascend gs layer i j c d low at to =
+        let parts : List Numbered = listed false a.node 0 (suc a.node) p.around gs in
+        let same : forall_in p.layer ≡ false = ap forall_in layer in
+        let first = map_at (λ (c : Numbered). num (child a c.0)) parts i c at in
+        let second = map_at (λ (c : Numbered). num (child a c.0)) parts j d to in
+        let is : Among (parts_of a.node p) first.0 = subst (λ y. Among (parts_in a.node p.around y) first.0) (sym layer) (among_at parts i first.0 first.1) in
+        let is' : Among (parts_of a.node p) second.0 = subst (λ y. Among (parts_in a.node p.around y) second.0) (sym layer) (among_at parts j second.0 second.1) in
+        let stages : stage_of order (forall_tables first.0.1) ≡ stage_of order (forall_tables second.0.1) =
+        ap (stage_of order) (tables_plain a.node p.around p.layer first.0 is same ∙ sym (tables_plain a.node p.around p.layer second.0 is' same)) in
+        let nodes : first.0.0 < second.0.0 = listed_ascend false a.node 0 (suc a.node) p.around gs i j first.0 second.0 low first.1 second.1 in
+        let less = above_lower (child a first.0.0) (child a second.0.0) first.0.1 second.0.1 (plain_sits first.0 is same) (plain_sits second.0 is' same) (omega arith) refl nodes in
+        let one = first.2 in
+        let two = second.2 in
+        omega arith
+
     below_layer : HasTerms outlines terms → (y : Formula-F Formula) → p.layer ≡ y → Below problem (num a) y variables
     below_layer has (Formula-F.Atom x) layer = λ clause way is.
         let found = hung a p way clause own is in
@@ -467,6 +485,7 @@ module _ (schema : List Table) (problem : Problem) (is_problem : IsProblem schem
               let part = subst (λ y. Among (parts_in a.node p.around y) found.part) layer found.is_part in
               let at = at_among (listed false a.node 0 (suc a.node) p.around gs) found.part part in
               (at.0, at_map (λ (c : Numbered). num (child a c.0)) (listed false a.node 0 (suc a.node) p.around gs) at.0 found.part at.1 ∙ ap Some found.is_clause);
+          ascend = parts_ascend gs layer;
         }
     below_layer has (Formula-F.Or gs) layer =
         let same : forall_in p.layer ≡ false = ap forall_in layer in

@@ -1,5 +1,5 @@
 -- Parts of nodes, rows and variables, case by case.
-use Rattle.std.proofs.Common.{◌≡◌, ◌∙◌, sym, ap, refl, subst, ℕ, zero, suc, ◌+◌, ◌-◌, inl, inr, Bool, true, false, ◌&&◌, cond, List, [], ◌∷◌, ◌++◌, length, map, take, drop, append_assoc, append-nil, arith}
+use Rattle.std.proofs.Common.{◌≡◌, ◌∙◌, sym, ap, refl, subst, ℕ, zero, suc, ◌+◌, ◌-◌, ◌<◌, ◌≤◌, inl, inr, Bool, true, false, ◌&&◌, cond, List, [], ◌∷◌, ◌++◌, length, map, take, drop, append_assoc, append-nil, arith}
 use Rattle.std.proofs.lemmas.Bool.{and_parts, and_from}
 use Rattle.std.proofs.lemmas.Bool.Decides.{nat_tests}
 use Rattle.std.proofs.lemmas.List.{map-append, length-append}
@@ -12,14 +12,14 @@ use Rattle.sort_formula.specs.declared.formula.Side.{Side}
 use Rattle.sort_formula.specs.declared.formula.Side.TheVariants as side
 use Rattle.sort_formula.specs.declared.formula.Atom.{Atom}
 use Rattle.sort_formula.specs.declared.formula.Atom.TheVariants as atom
-use Rattle.sort_formula.specs.declared.formula.Formula.{Formula}
+use Rattle.sort_formula.specs.declared.formula.Formula.{Formula, fold_out-Formula}
 use Rattle.sort_formula.specs.declared.formula.Formula.TheOpen.{Formula-F}
 use Rattle.sort_formula.specs.Sentences.{has_variable, is_moderate, are_of_one_table, atom_is_bound}
 use Rattle.sort_formula.specs.Variables.{side_is_below, atom_is_below}
 use Rattle.sorted_skolem.specs.declared.term.RowTerm.{RowTerm}
-use Rattle.sorted_skolem.specs.Preorder.{Quantifier, Way, Node, laid, nodes_of, outlines_of, node_at, is_forall_of, forall_in, exists_in}
+use Rattle.sorted_skolem.specs.Preorder.{Quantifier, Way, Node, Laid, laid, laid_step, nodes_of, outlines_of, node_at, is_forall_of, forall_in, exists_in}
 use Rattle.sorted_skolem.proofs.Among.{Among}
-use Rattle.sorted_skolem.proofs.Parts.{Numbered, listed, parts_in}
+use Rattle.sorted_skolem.proofs.Parts.{Numbered, node_below, listed, parts_in}
 use Rattle.sorted_skolem.proofs.RowTerms.{AreRows, IsRowOf}
 use Rattle.ground_theory.specs.declared.literal.Clause.{Clause}
 use Rattle.ground_theory.specs.Forward.{guards_before, are_forward_from}
@@ -176,6 +176,31 @@ listed_at number way next around (g ∷ gs) c w is above =
           let same = rest.1 in
           (suc rest.0, omega arith, rest.2)
     ]
+
+-- the parts of a node have ever greater numbers
+laid_some : (g : Formula) (next : ℕ) (above : Option Way) (around : List Quantifier) → 0 < length ((laid g).nodes next above around)
+laid_some g next above around =
+    let count = ap (λ (l : Laid). length (l.nodes next above around)) (fold_out-Formula Laid laid_step g) in
+    omega arith
+
+listed_from : (is_or : Bool) (number way next : ℕ) (around : List Quantifier) (gs : List Formula) (i : ℕ) (c : Numbered) → slice_get (listed is_or number way next around gs) i ≡ Some c → next ≤ c.0
+listed_from is_or number way next around [] i c at = cc
+listed_from is_or number way next around (g ∷ gs) zero c at = let same : next ≡ c.0 = ap (λ (c : Numbered). c.0) (same_Some (next, node_below number way around g) c at) in omega arith
+listed_from is_or number way next around (g ∷ gs) (suc i) c at =
+    let rest = listed_from is_or number (if is_or then suc way else way) (next + length ((laid g).nodes next (Some (record { node = number; way = way })) around)) around gs i c at in
+    omega arith
+
+pub listed_ascend : (is_or : Bool) (number way next : ℕ) (around : List Quantifier) (gs : List Formula) (i j : ℕ) (c d : Numbered) → i < j →
+    slice_get (listed is_or number way next around gs) i ≡ Some c → slice_get (listed is_or number way next around gs) j ≡ Some d → c.0 < d.0
+listed_ascend is_or number way next around [] i j c d low at to = cc
+listed_ascend is_or number way next around (g ∷ gs) i zero c d low at to = absurd (omega arith)
+listed_ascend is_or number way next around (g ∷ gs) zero (suc j) c d low at to =
+    let same : next ≡ c.0 = ap (λ (c : Numbered). c.0) (same_Some (next, node_below number way around g) c at) in
+    let some = laid_some g next (Some (record { node = number; way = way })) around in
+    let rest = listed_from is_or number (if is_or then suc way else way) (next + length ((laid g).nodes next (Some (record { node = number; way = way })) around)) around gs j d to in
+    omega arith
+listed_ascend is_or number way next around (g ∷ gs) (suc i) (suc j) c d low at to =
+    listed_ascend is_or number (if is_or then suc way else way) (next + length ((laid g).nodes next (Some (record { node = number; way = way })) around)) around gs i j c d (omega arith) at to
 
 -- ---- atoms
 

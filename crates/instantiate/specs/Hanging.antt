@@ -1,6 +1,6 @@
 -- How the clauses of a ground list hang together: what stands at each, and how it hangs below another. All that full cases and
 -- closed trees have to know of the numbers of clauses and row terms is said here.
-use Rattle.std.specs.Prelude.{◌≡◌, true, ℕ, suc, List, [], ◌∷◌, ◌++◌, length, Some, slice_get}
+use Rattle.std.specs.Prelude.{◌≡◌, ◌<◌, true, ℕ, suc, List, [], ◌∷◌, ◌++◌, length, Some, slice_get}
 use Rattle.std.specs.Option.{option_map_or}
 use Rattle.sort_formula.specs.declared.formula.Atom.{Atom}
 use Rattle.sort_formula.specs.declared.formula.Formula.{Formula, out-Formula}
@@ -85,6 +85,8 @@ pub record HasParts (problem : Problem) (above : ℕ) (variables : List ℕ) (pa
   pub clauses : List ℕ
   pub are : AreParts problem (λ number. at_way above 0) 0 variables parts clauses
   pub all : (clause way : ℕ) → HangsBelow problem above way clause → (place : ℕ) × (slice_get clauses place ≡ Some clause)
+  -- a later part stands at a later clause
+  pub ascend : (place later clause other : ℕ) → place < later → slice_get clauses place ≡ Some clause → slice_get clauses later ≡ Some other → clause < other
 
 pub record HasWays (problem : Problem) (above : ℕ) (variables : List ℕ) (parts : List Formula) : Type 0 where
   pub clauses : List ℕ

@@ -51,27 +51,27 @@ in_numbered n (d ∷ ds) (suc i) c at = let more = in_numbered (suc n) ds i c at
 
 -- ---- names
 
-abbrev pub Grows : Pairs → Pairs → Type 0
-Grows rows more = (v r : ℕ) → row_of rows v ≡ Some r → row_of more v ≡ Some r
+abbrev pub Grows : (ℕ → Option ℕ) → (ℕ → Option ℕ) → Type 0
+Grows row_for more = (v r : ℕ) → row_for v ≡ Some r → more v ≡ Some r
 
-pub names_more : (rows more : Pairs) → Grows rows more → (vs rs : List ℕ) → Names rows vs rs → Names more vs rs
-names_more rows more grows [] [] names = tt
-names_more rows more grows [] (r ∷ rs) names = absurd names
-names_more rows more grows (v ∷ vs) [] names = absurd names
-names_more rows more grows (v ∷ vs) (r ∷ rs) names = (grows v r names.0, names_more rows more grows vs rs names.1)
+pub names_more : (row_for more : ℕ → Option ℕ) → Grows row_for more → (vs rs : List ℕ) → Names row_for vs rs → Names more vs rs
+names_more row_for more grows [] [] names = tt
+names_more row_for more grows [] (r ∷ rs) names = absurd names
+names_more row_for more grows (v ∷ vs) [] names = absurd names
+names_more row_for more grows (v ∷ vs) (r ∷ rs) names = (grows v r names.0, names_more row_for more grows vs rs names.1)
 
-pub names_last : (rows : Pairs) (vs rs : List ℕ) (v r : ℕ) → Names rows vs rs → row_of rows v ≡ Some r → Names rows (vs ++ v ∷ []) (rs ++ r ∷ [])
-names_last rows [] [] v r names at = (at, tt)
-names_last rows [] (s ∷ rs) v r names at = absurd names
-names_last rows (w ∷ vs) [] v r names at = absurd names
-names_last rows (w ∷ vs) (s ∷ rs) v r names at = (names.0, names_last rows vs rs v r names.1 at)
+pub names_last : (row_for : ℕ → Option ℕ) (vs rs : List ℕ) (v r : ℕ) → Names row_for vs rs → row_for v ≡ Some r → Names row_for (vs ++ v ∷ []) (rs ++ r ∷ [])
+names_last row_for [] [] v r names at = (at, tt)
+names_last row_for [] (s ∷ rs) v r names at = absurd names
+names_last row_for (w ∷ vs) [] v r names at = absurd names
+names_last row_for (w ∷ vs) (s ∷ rs) v r names at = (names.0, names_last row_for vs rs v r names.1 at)
 
 if_false_grows : (b : Bool) (x : ℕ) (o : Option ℕ) (r : ℕ) → (b ≡ true → o ≡ None) → o ≡ Some r → (if b then Some x else o) ≡ Some r
 if_false_grows true x o r none at = let no = none refl in cc
 if_false_grows false x o r none at = at
 
 -- a row term that had no row gets one
-pub new_grows : (rows : Pairs) (row named : ℕ) → row_of rows row ≡ None → Grows rows ((row, named) ∷ rows)
+pub new_grows : (rows : Pairs) (row named : ℕ) → row_of rows row ≡ None → Grows (row_of rows) (row_of ((row, named) ∷ rows))
 new_grows rows row named none v r at =
     if_false_grows (nat_eq row v) named (row_of rows v) r (λ same. ap (row_of rows) (sym (eqb-true row v same)) ∙ none) at
 
@@ -119,32 +119,32 @@ module _ (problem : Problem) where
   pub known_more : (new facts : Pairs) (clause : ℕ) → IsKnown facts clause → IsKnown (new ++ facts) clause
   known_more new facts clause known = (known.0, in_right new facts (clause, known.0) known.1)
 
-  pub done_more : (new facts rows more : Pairs) → Grows rows more → (guard : Guard) → IsDone problem facts rows guard → IsDone problem (new ++ facts) more guard
+  pub done_more : (new facts rows more : Pairs) → Grows (row_of rows) (row_of more) → (guard : Guard) → IsDone problem facts rows guard → IsDone problem (new ++ facts) more guard
   done_more new facts rows more grows guard done = record {
     known = known_more new facts guard.clause done.known;
     below = λ clause hangs. known_more new facts clause (done.below clause hangs);
     made = λ row table maker. let named = done.made row table maker in (named.0, grows row named.0 named.1);
   }
 
-  pub fact_more : (b : Branch) (rows more : Pairs) → Grows rows more → (facts : List Fact) (tables : List ℕ) → (clause fact : ℕ) → HasFact problem b rows clause fact →
+  pub fact_more : (b : Branch) (row_for more : ℕ → Option ℕ) → Grows row_for more → (facts : List Fact) (tables : List ℕ) → (clause fact : ℕ) → HasFact problem b row_for clause fact →
       HasFact problem (record { facts = b.facts ++ facts; tables = tables }) more clause fact
-  fact_more b rows more grows facts tables clause fact has = record {
+  fact_more b row_for more grows facts tables clause fact has = record {
     formula = has.formula;
     variables = has.variables;
     named = has.named;
     stands = has.stands;
     is_fact = slice_get_front b.facts facts fact (fact_of has.named has.formula) has.is_fact;
-    names = names_more rows more grows has.variables has.named has.names;
+    names = names_more row_for more grows has.variables has.named has.names;
   }
 
   -- more facts, no more rows
   pub grown : (b : Branch) (facts rows : Pairs) (guards : List Guard) → Grounded problem b facts rows guards → (more : List Fact) (new : Pairs) →
-      ((clause fact : ℕ) → IsIn new (clause, fact) → HasFact problem (with_facts b more) rows clause fact) →
+      ((clause fact : ℕ) → IsIn new (clause, fact) → HasFact problem (with_facts b more) (row_of rows) clause fact) →
       Grounded problem (with_facts b more) (new ++ facts) rows guards
   grown b facts rows guards grounded more new are = record {
     is = λ clause fact known. elim (in_either new facts (clause, fact) known) [
       | inl fresh ↦ are clause fact fresh
-      | inr old ↦ fact_more b rows rows (λ v r at. at) more b.tables clause fact (grounded.is clause fact old)
+      | inr old ↦ fact_more b (row_of rows) (row_of rows) (λ v r at. at) more b.tables clause fact (grounded.is clause fact old)
     ];
     tables = grounded.tables;
     made = λ row named maker table at is. done_more new facts rows rows (λ v r at. at) (record { clause = maker; way = 0 }) (grounded.made row named maker table at is);

@@ -40,22 +40,20 @@ use Rattle.proof_cert.proofs.Refuting.{refutes}
 
 -- ---- a named list of variables
 
-names_at : (rows : Pairs) (vs rs : List ℕ) → Names rows vs rs → (i : ℕ) → nat_lt i (length vs) ≡ true →
-    (v : ℕ) × ((r : ℕ) × (slice_get vs i ≡ Some v) × (slice_get rs i ≡ Some r) × (row_of rows v ≡ Some r))
-names_at rows [] rs names i low = absurd (let e : i < 0 = grind (arith, nat_tests) in omega arith)
-names_at rows (v ∷ vs) [] names i low = absurd names
-names_at rows (v ∷ vs) (r ∷ rs) names zero low = (v, (r, refl, refl, names.0))
-names_at rows (v ∷ vs) (r ∷ rs) names (suc i) low = names_at rows vs rs names.1 i (let e : suc i < suc (length vs) = below_true (suc i) (suc (length vs)) low in true_below i (length vs) (omega arith))
+names_at : (row_for : ℕ → Option ℕ) (vs rs : List ℕ) → Names row_for vs rs → (i : ℕ) → nat_lt i (length vs) ≡ true →
+    (v : ℕ) × ((r : ℕ) × (slice_get vs i ≡ Some v) × (slice_get rs i ≡ Some r) × (row_for v ≡ Some r))
+names_at row_for [] rs names i low = absurd (let e : i < 0 = grind (arith, nat_tests) in omega arith)
+names_at row_for (v ∷ vs) [] names i low = absurd names
+names_at row_for (v ∷ vs) (r ∷ rs) names zero low = (v, (r, refl, refl, names.0))
+names_at row_for (v ∷ vs) (r ∷ rs) names (suc i) low = names_at row_for vs rs names.1 i (let e : suc i < suc (length vs) = below_true (suc i) (suc (length vs)) low in true_below i (length vs) (omega arith))
 
-module _ (rows : Pairs) (vs rs : List ℕ) (names : Names rows vs rs) where
-  abbrev rename : ℕ → ℕ
-  rename row = unwrap_or (row_of rows row) 0
-
+-- each named row term is renamed to its row
+module _ (row_for : ℕ → Option ℕ) (rename : ℕ → ℕ) (agrees : (v r : ℕ) → row_for v ≡ Some r → rename v ≡ r) (vs rs : List ℕ) (names : Names row_for vs rs) where
   -- the row of the branch for a variable is that for its row term
   row_at : (i : ℕ) → nat_lt i (length vs) ≡ true → slice_get rs i ≡ Some (rename (placed_row vs 0 i))
   row_at i low =
-      let n = names_at rows vs rs names i low in
-      n.1.2 ∙ (ap (λ (o : Option ℕ). Some (unwrap_or o 0)) (sym n.1.3) ∙ ap (λ (o : Option ℕ). Some (rename (unwrap_or o (0 + (i - length vs))))) (sym n.1.1))
+      let n = names_at row_for vs rs names i low in
+      n.1.2 ∙ (ap (λ (r : ℕ). Some r) (sym (agrees n.0 n.1.0 n.1.3)) ∙ ap (λ (o : Option ℕ). Some (rename (unwrap_or o (0 + (i - length vs))))) (sym n.1.1))
 
   side_named : (s : Side) → side_is_below (length vs) s ≡ true → side_at rs s ≡ Some (renamed_side rename (placed_side vs 0 s))
   side_named (side.Cell row column) low = ap (option_and_then (λ r. Some (side.Cell r column))) (row_at row low)
@@ -84,13 +82,13 @@ module _ (rows : Pairs) (vs rs : List ℕ) (names : Names rows vs rs) where
   -- ---- each row of the literal has a name
 
   abbrev Named : ℕ → Type 0
-  Named row = (r : ℕ) × (row_of rows row ≡ Some r)
+  Named row = (r : ℕ) × (row_for row ≡ Some r)
 
   named_row : (i row : ℕ) → nat_lt i (length vs) ≡ true → nat_eq row (placed_row vs 0 i) ≡ true → Named row
   named_row i row low same =
-      let n = names_at rows vs rs names i low in
+      let n = names_at row_for vs rs names i low in
       let is : row ≡ n.0 = eqb-true row (placed_row vs 0 i) same ∙ ap (λ (o : Option ℕ). unwrap_or o (0 + (i - length vs))) n.1.1 in
-      (n.1.0, ap (row_of rows) is ∙ n.1.3)
+      (n.1.0, ap row_for is ∙ n.1.3)
 
   named_side : (row : ℕ) (s : Side) → side_is_below (length vs) s ≡ true → side_has_row row (placed_side vs 0 s) ≡ true → Named row
   named_side row (side.Cell i column) low has = named_row i row low has
@@ -149,15 +147,13 @@ literal_in ways way = option_and_then (λ l. l) (slice_get ways way)
 
 -- ---- leaves
 
-module _ (schema : List Table) (problem : Problem) (hanging : Hanging problem) (same_domains : domains_of schema ≡ problem.frame.domains)
-    (b : Branch) (facts rows : Pairs) (guards : List Guard) (grounded : Grounded problem b facts rows guards) where
-  abbrev row_named : ℕ → ℕ
-  row_named row = unwrap_or (row_of rows row) 0
-
-  -- the fact of a clause says what its literal says
-  abbrev Says : Literal → ℕ → Type 0
+module _ (schema : List Table) (problem : Problem) (hanging : Hanging problem) (same_domains : domains_of schema ≡ problem.frame.domains) (b : Branch)
+    (row_for : ℕ → Option ℕ) (rename : ℕ → ℕ) (agrees : (v r : ℕ) → row_for v ≡ Some r → rename v ≡ r)
+    (tables : (row named : ℕ) → row_for row ≡ Some named → (table : ℕ) × (slice_get b.tables named ≡ Some table) × (slice_get problem.frame.tables row ≡ Some table)) where
+  -- the fact says what the literal says
+  abbrev pub Says : Literal → ℕ → Type 0
   Says l fact =
-      (atom_of b fact ≡ Some (renamed row_named l.atom)) × ((row : ℕ) → has_row row l.atom ≡ true → (r : ℕ) × (row_of rows row ≡ Some r))
+      (atom_of b fact ≡ Some (renamed rename l.atom)) × ((row : ℕ) → has_row row l.atom ≡ true → (r : ℕ) × (row_for row ≡ Some r))
 
   no_way : (gs : List Formula) (way : ℕ) (l : Literal) → literal_in (map (λ (g : Formula). no_literal g) gs) way ≡ Some l → ⊥
   no_way [] way l is = cc
@@ -172,7 +168,7 @@ module _ (schema : List Table) (problem : Problem) (hanging : Hanging problem) (
   one_some m zero l is = same_Some m l is
   one_some m (suc way) l is = cc
 
-  says_layer : (clause fact way : ℕ) (l : Literal) (has : HasFact problem b rows clause fact) (y : Formula-F Formula) → out-Formula has.formula ≡ y → StandsAt problem clause y has.variables →
+  says_layer : (clause fact way : ℕ) (l : Literal) (has : HasFact problem b row_for clause fact) (y : Formula-F Formula) → out-Formula has.formula ≡ y → StandsAt problem clause y has.variables →
       literal_in (ways_in has.variables y) way ≡ Some l → Says l fact
   says_layer clause fact way l has (Formula-F.And gs) is stands at = absurd (one_none way l at)
   says_layer clause fact way l has (Formula-F.Or gs) is stands at = absurd (no_way gs way l at)
@@ -183,24 +179,59 @@ module _ (schema : List Table) (problem : Problem) (hanging : Hanging problem) (
       let same : record { atom = placed_atom has.variables 0 a } ≡ l = one_some (record { atom = placed_atom has.variables 0 a }) way l at in
       let atoms : placed_atom has.variables 0 a ≡ l.atom = ap (λ (m : Literal). m.atom) same in (
         ap (option_and_then (λ (x : Fact). atom_in x.rows (out-Formula x.formula))) has.is_fact
-            ∙ (ap (atom_in has.named) is ∙ (atom_named rows has.variables has.named has.names a low ∙ ap (λ (x : Atom). Some (renamed row_named x)) atoms)),
-        λ row named. named_in rows has.variables has.named has.names a row low (subst (λ (x : Atom). has_row row x ≡ true) (sym atoms) named),
+            ∙ (ap (atom_in has.named) is ∙ (atom_named row_for rename agrees has.variables has.named has.names a low ∙ ap (λ (x : Atom). Some (renamed rename x)) atoms)),
+        λ row named. named_in row_for rename agrees has.variables has.named has.names a row low (subst (λ (x : Atom). has_row row x ≡ true) (sym atoms) named),
       )
 
+  -- the fact of a clause says what its literal says
+  pub fact_says : (g : Guard) (l : Literal) → literal_at problem.clauses problem.frame g ≡ Some l → (fact : ℕ) → HasFact problem b row_for g.clause fact → Says l fact
+  fact_says g l is fact has =
+      let listed = hanging.listed g.clause (out-Formula has.formula) has.variables has.stands in
+      says_layer g.clause fact g.way l has (out-Formula has.formula) refl has.stands
+      (sym (ap (λ ways. literal_in ways g.way) listed.2) ∙ (sym (ap (option_and_then (λ c. literal_of c g.way)) listed.1) ∙ is))
+
+  -- a row with a name has there the domains of its row term
+  domains_are : (row r column : ℕ) → row_for row ≡ Some r → (ls : List Literal) →
+      domain_at schema b (rename row) column ≡ domain_at (bare_schema problem.frame) (literal_branch problem.frame ls) row column
+  domains_are row r column named ls =
+      let t = tables row r named in
+      let here : slice_get b.tables (rename row) ≡ Some t.0 = ap (slice_get b.tables) (agrees row r named) ∙ t.1 in
+      ap (option_and_then (λ n. domain_in schema n column)) here
+      ∙ (table_domain schema t.0 column
+      ∙ (ap (λ (ds : List (List Domain)). domain_in (map bare_table ds) t.0 column) same_domains
+      ∙ sym (ap (option_and_then (λ n. domain_in (bare_schema problem.frame) n column)) t.2)))
+
+  -- so a right leaf closes the branch
+  pub leaf_closes : (leaf : Step) (ls : List Literal) → is_right_leaf problem.frame ls leaf ≡ true → (fact : ℕ → ℕ) →
+      ((i : ℕ) (l : Literal) → slice_get ls i ≡ Some l → Says l (fact i)) → children schema b (moved fact rename leaf) ≡ Some []
+  leaf_closes leaf ls right fact say =
+      leaf_moves problem.frame ls fact rename schema b
+      (record {
+        atoms = λ i l at. (say i l at).0;
+        domains = λ i l row at has column. let r = (say i l at).1 row has in domains_are row r.0 column r.1 ls;
+      })
+      leaf right
+
+module _ (schema : List Table) (problem : Problem) (hanging : Hanging problem) (same_domains : domains_of schema ≡ problem.frame.domains)
+    (b : Branch) (facts rows : Pairs) (guards : List Guard) (grounded : Grounded problem b facts rows guards) where
+  abbrev row_named : ℕ → ℕ
+  row_named row = unwrap_or (row_of rows row) 0
+
+  agree : (v r : ℕ) → row_of rows v ≡ Some r → row_named v ≡ r
+  agree v r at = ap (λ (o : Option ℕ). unwrap_or o 0) at
+
+  abbrev SaysHere : Literal → ℕ → Type 0
+  SaysHere = Says schema problem hanging same_domains b (row_of rows) row_named agree grounded.tables
+
   -- of a way that is chosen
-  says : (g : Guard) (l : Literal) → literal_at problem.clauses problem.frame g ≡ Some l → is_among guards g ≡ true → (fact : ℕ) × Says l fact
+  says : (g : Guard) (l : Literal) → literal_at problem.clauses problem.frame g ≡ Some l → is_among guards g ≡ true → (fact : ℕ) × SaysHere l fact
   says g l is among =
       let known = (grounded.done g among).known in
-      let has = grounded.is g.clause known.0 known.1 in
-      let listed = hanging.listed g.clause (out-Formula has.formula) has.variables has.stands in (
-        known.0,
-        says_layer g.clause known.0 g.way l has (out-Formula has.formula) refl has.stands
-            (sym (ap (λ ways. literal_in ways g.way) listed.2) ∙ (sym (ap (option_and_then (λ c. literal_of c g.way)) listed.1) ∙ is)),
-      )
+      (known.0, fact_says schema problem hanging same_domains b (row_of rows) row_named agree grounded.tables g l is known.0 (grounded.is g.clause known.0 known.1))
 
   -- the facts of all
   abbrev AllSay : List ℕ → List Literal → Type 0
-  AllSay ns ls = (i : ℕ) (l : Literal) → slice_get ls i ≡ Some l → Says l (unwrap_or (slice_get ns i) 0)
+  AllSay ns ls = (i : ℕ) (l : Literal) → slice_get ls i ≡ Some l → SaysHere l (unwrap_or (slice_get ns i) 0)
 
   all_say : (gs : List Guard) (ls : List Literal) → literals_at problem.clauses problem.frame gs ≡ Some ls → are_among guards gs ≡ true → (ns : List ℕ) × AllSay ns ls
   all_say [] ls is among = ([], λ i l at. absurd (none_there i l (subst (λ (ls : List Literal). slice_get ls i ≡ Some l) (sym (same_Some [] ls is)) at)))
@@ -217,20 +248,9 @@ module _ (schema : List Table) (problem : Problem) (hanging : Hanging problem) (
       let later = all_say gs rest there parts.1 in
       (first.0 ∷ later.0, λ i m at. together first.0 later.0 l rest first.1 later.1 i m (subst (λ (ls : List Literal). slice_get ls i ≡ Some m) (sym (same_Some (l ∷ rest) ls same)) at))))
     where
-      together : (n : ℕ) (ns : List ℕ) (l : Literal) (rest : List Literal) → Says l n → AllSay ns rest → AllSay (n ∷ ns) (l ∷ rest)
-      together n ns l rest one all zero m at = subst (λ (l : Literal). Says l n) (same_Some l m at) one
+      together : (n : ℕ) (ns : List ℕ) (l : Literal) (rest : List Literal) → SaysHere l n → AllSay ns rest → AllSay (n ∷ ns) (l ∷ rest)
+      together n ns l rest one all zero m at = subst (λ (l : Literal). SaysHere l n) (same_Some l m at) one
       together n ns l rest one all (suc i) m at = all i m at
-
-  -- a row with a name has there the domains of its row term
-  domains_are : (row r column : ℕ) → row_of rows row ≡ Some r → (ls : List Literal) →
-      domain_at schema b (row_named row) column ≡ domain_at (bare_schema problem.frame) (literal_branch problem.frame ls) row column
-  domains_are row r column named ls =
-      let t = grounded.tables row r named in
-      let here : slice_get b.tables (row_named row) ≡ Some t.0 = ap (λ (o : Option ℕ). slice_get b.tables (unwrap_or o 0)) named ∙ t.1 in
-      ap (option_and_then (λ n. domain_in schema n column)) here
-      ∙ (table_domain schema t.0 column
-      ∙ (ap (λ (ds : List (List Domain)). domain_in (map bare_table ds) t.0 column) same_domains
-      ∙ sym (ap (option_and_then (λ n. domain_in (bare_schema problem.frame) n column)) t.2)))
 
   -- so the leaf closes it
   leaf_refutes : (conflict : Conflict) (chosen : List Guard) → closed_step problem.clauses problem.frame (CaseTree-F.Leaf conflict chosen) guards ≡ true →
@@ -241,12 +261,7 @@ module _ (schema : List Table) (problem : Problem) (hanging : Hanging problem) (
       let say = all_say chosen ls.0 ls.1 parts.0 in
       let fact : ℕ → ℕ = λ i. unwrap_or (slice_get say.0 i) 0 in (
         moved fact row_named conflict.leaf,
-        leaf_moves problem.frame ls.0 fact row_named schema b
-            (record {
-              atoms = λ i l at. (say.1 i l at).0;
-              domains = λ i l row at has column. let r = (say.1 i l at).1 row has in domains_are row r.0 column r.1 ls.0;
-            })
-            conflict.leaf ls.2,
+        leaf_closes schema problem hanging same_domains b (row_of rows) row_named agree grounded.tables conflict.leaf ls.0 ls.2 fact say.1,
       )
 
 -- a closed tree refutes each branch in which its choices are known

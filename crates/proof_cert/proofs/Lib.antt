@@ -2,3 +2,11 @@ pub mod Growing
 pub mod Refuting
 pub mod Leaves
 pub mod Starting
+pub mod Ranking
+pub mod Paths
+pub mod Standing
+pub mod Leading
+pub mod Opening
+pub mod Worklist
+pub mod Written
+pub mod Making

@@ -60,7 +60,7 @@ module _ (schema : List Table) (problem : Problem) (hanging : Hanging problem) w
   Reached b facts rows guards clause =
       (c : Branch) × ((more : Pairs) × Grounded problem c more rows guards × IsKnown more clause × (Refuted c → Refuted b))
 
-  opened_is : (b : Branch) (f : ℕ) (named : List ℕ) (g : Formula) (layer : Formula-F Formula) →
+  pub opened_is : (b : Branch) (f : ℕ) (named : List ℕ) (g : Formula) (layer : Formula-F Formula) →
       (children_of : Branch → List ℕ → Formula-F Formula → Option (List Branch)) → slice_get b.facts f ≡ Some (fact_of named g) → out-Formula g ≡ layer →
       opened b f children_of ≡ children_of b named layer
   opened_is b f named g layer children_of at is =
@@ -75,7 +75,7 @@ module _ (schema : List Table) (problem : Problem) (hanging : Hanging problem) w
   second_among : (guards : List Guard) (g h : Guard) (gs : List Guard) → are_among guards (g ∷ h ∷ gs) ≡ true → is_among guards h ≡ true
   second_among guards g h gs all = first_among guards h gs (and_parts (is_among guards g) (are_among guards (h ∷ gs)) all).1
 
-  at_row_is : (row table : ℕ) (body : Formula) (b : Branch) (named : List ℕ) → slice_get b.tables row ≡ Some table →
+  pub at_row_is : (row table : ℕ) (body : Formula) (b : Branch) (named : List ℕ) → slice_get b.tables row ≡ Some table →
       at_row row b named (Formula-F.Forall table body) ≡ Some (with_facts b (fact_of (named ++ row ∷ []) body ∷ []) ∷ [])
   at_row_is row table body b named at =
       let test : option_map_or (nat_eq table) (slice_get b.tables row) false ≡ true = ap (λ o. option_map_or (nat_eq table) o false) at ∙ same_number table in
@@ -105,18 +105,18 @@ module _ (schema : List Table) (problem : Problem) (hanging : Hanging problem) w
       let new : Fact = fact_of (fact.named ++ named.0 ∷ []) is.body in
       let c : Branch = with_facts b (new ∷ []) in
       let fresh : Pairs = (clause, length b.facts) ∷ [] in
-      let has : HasFact problem c rows clause (length b.facts) = record {
+      let has : HasFact problem c (row_of rows) clause (length b.facts) = record {
         formula = is.body;
         variables = is.variables ++ row ∷ [];
         named = fact.named ++ named.0 ∷ [];
         stands = is.clause_is;
         is_fact = get_middle b.facts new [];
-        names = names_last rows is.variables fact.named row named.0 (subst (λ vs. Names rows vs fact.named) variables fact.names) named.1;
+        names = names_last (row_of rows) is.variables fact.named row named.0 (subst (λ vs. Names (row_of rows) vs fact.named) variables fact.names) named.1;
       } in
       let grounded' : Grounded problem c (fresh ++ facts) rows guards =
       grown problem b facts rows guards grounded (new ∷ []) fresh
       (λ k f known. elim known [
-        | inl here ↦ subst (λ (p : ℕ × ℕ). HasFact problem c rows p.0 p.1) here has
+        | inl here ↦ subst (λ (p : ℕ × ℕ). HasFact problem c (row_of rows) p.0 p.1) here has
         | inr never ↦ absurd never
       ]) in
       let made : children schema b (step.All first.known.0 named.0) ≡ Some (c ∷ []) =
@@ -149,14 +149,14 @@ module _ (schema : List Table) (problem : Problem) (hanging : Hanging problem) w
   no_row_done facts rows number way known none parts = record { known = known; below = parts; made = λ row table maker. absurd (none row table maker) }
 
   parts_known : (b : Branch) (rows : Pairs) (guard : ℕ → Guard) (i : ℕ) (variables named : List ℕ) (front : List Fact) (gs : List Formula) (cs : List ℕ) →
-      AreParts problem guard i variables gs cs → Names rows variables named → (clause fact : ℕ) → IsIn (numbered_from (length front) cs) (clause, fact) →
-      HasFact problem (record { facts = front ++ map (fact_of named) gs; tables = b.tables }) rows clause fact
+      AreParts problem guard i variables gs cs → Names (row_of rows) variables named → (clause fact : ℕ) → IsIn (numbered_from (length front) cs) (clause, fact) →
+      HasFact problem (record { facts = front ++ map (fact_of named) gs; tables = b.tables }) (row_of rows) clause fact
   parts_known b rows guard i variables named front [] [] are names clause fact known = absurd known
   parts_known b rows guard i variables named front [] (c ∷ cs) are names clause fact known = absurd are
   parts_known b rows guard i variables named front (g ∷ gs) [] are names clause fact known = absurd are
   parts_known b rows guard i variables named front (g ∷ gs) (c ∷ cs) are names clause fact known =
       let whole : Branch = record { facts = front ++ map (fact_of named) (g ∷ gs); tables = b.tables } in
-      let has : HasFact problem whole rows c (length front) = record {
+      let has : HasFact problem whole (row_of rows) c (length front) = record {
         formula = g;
         variables = variables;
         named = named;
@@ -165,16 +165,16 @@ module _ (schema : List Table) (problem : Problem) (hanging : Hanging problem) w
         names = names;
       } in
       elim known [
-        | inl here ↦ subst (λ (p : ℕ × ℕ). HasFact problem whole rows p.0 p.1) here has
+        | inl here ↦ subst (λ (p : ℕ × ℕ). HasFact problem whole (row_of rows) p.0 p.1) here has
         | inr later ↦
             let more : List Fact = front ++ fact_of named g ∷ [] in
             let count : suc (length front) ≡ length more = sym (length-append front (fact_of named g ∷ []) ∙ add-one (length front)) in
             let rest = parts_known b rows guard (suc i) variables named more gs cs are.2 names clause fact (subst (λ n. IsIn (numbered_from n cs) (clause, fact)) count later) in
-            subst (λ (fs : List Fact). HasFact problem (record { facts = fs; tables = b.tables }) rows clause fact) (append_assoc front (fact_of named g ∷ []) (map (fact_of named) gs)) rest
+            subst (λ (fs : List Fact). HasFact problem (record { facts = fs; tables = b.tables }) (row_of rows) clause fact) (append_assoc front (fact_of named g ∷ []) (map (fact_of named) gs)) rest
       ]
 
   module _ (number : ℕ) (parts : List Part) (guards : List Guard) (closed : ways_closed problem.clauses problem.frame number 0 (map meaning (trees parts)) guards ≡ true)
-      (b : Branch) (facts rows : Pairs) (grounded : Grounded problem b facts rows guards) (f : ℕ) (known : IsIn facts (number, f)) (has : HasFact problem b rows number f) where
+      (b : Branch) (facts rows : Pairs) (grounded : Grounded problem b facts rows guards) (f : ℕ) (known : IsIn facts (number, f)) (has : HasFact problem b (row_of rows) number f) where
     abbrev Counted : ℕ → Type 0
     Counted n = length (map meaning (trees parts)) ≡ n
 
@@ -222,7 +222,7 @@ module _ (schema : List Table) (problem : Problem) (hanging : Hanging problem) w
         one_child b c (step.And f) made (one_way number parts guards count closed c (new ++ facts) rows (chosen_more problem c (new ++ facts) rows guards (at_way number 0) grown' done))
 
   module _ (number : ℕ) (guards : List Guard) (b : Branch) (facts rows : Pairs) (grounded : Grounded problem b facts rows guards)
-      (f : ℕ) (known : IsIn facts (number, f)) (variables named : List ℕ) (names : Names rows variables named) (none : NoRow number) where
+      (f : ℕ) (known : IsIn facts (number, f)) (variables named : List ℕ) (names : Names (row_of rows) variables named) (none : NoRow number) where
     abbrev part_branch : Formula → Branch
     part_branch g = with_facts b (fact_of named g ∷ [])
 
@@ -240,7 +240,7 @@ module _ (schema : List Table) (problem : Problem) (hanging : Hanging problem) w
         let both = and_parts (meaning part.0 now) (ways_closed problem.clauses problem.frame number (suc i) (map meaning (trees parts)) guards) closed in
         let here : Branch = part_branch g in
         let new : Pairs = (c, length b.facts) ∷ [] in
-        let fact : HasFact problem here rows c (length b.facts) = record {
+        let fact : HasFact problem here (row_of rows) c (length b.facts) = record {
           formula = g;
           variables = variables;
           named = named;
@@ -251,7 +251,7 @@ module _ (schema : List Table) (problem : Problem) (hanging : Hanging problem) w
         let more : Grounded problem here (new ++ facts) rows guards =
         grown problem b facts rows guards grounded (fact_of named g ∷ []) new
         (λ k n is. elim is [
-          | inl same ↦ subst (λ (p : ℕ × ℕ). HasFact problem here rows p.0 p.1) same fact
+          | inl same ↦ subst (λ (p : ℕ × ℕ). HasFact problem here (row_of rows) p.0 p.1) same fact
           | inr never ↦ absurd never
         ]) in
         let plain : i ≡ i + 0 = omega arith in
@@ -272,7 +272,7 @@ module _ (schema : List Table) (problem : Problem) (hanging : Hanging problem) w
   -- ---- Exists: its row, where it has none yet
 
   module _ (number : ℕ) (parts : List Part) (guards : List Guard) (closed : ways_closed problem.clauses problem.frame number 0 (map meaning (trees parts)) guards ≡ true)
-      (b : Branch) (facts rows : Pairs) (grounded : Grounded problem b facts rows guards) (f : ℕ) (known : IsIn facts (number, f)) (has : HasFact problem b rows number f)
+      (b : Branch) (facts rows : Pairs) (grounded : Grounded problem b facts rows guards) (f : ℕ) (known : IsIn facts (number, f)) (has : HasFact problem b (row_of rows) number f)
       (table : ℕ) (body : Formula) (is : out-Formula has.formula ≡ Formula-F.Exists table body) (hung : HasRow problem number table has.variables body)
       (count : length (map meaning (trees parts)) ≡ 1) where
     old_row : (named : ℕ) → row_of rows hung.row ≡ Some named → Refuted b
@@ -287,16 +287,16 @@ module _ (schema : List Table) (problem : Problem) (hanging : Hanging problem) w
         let c : Branch = record { facts = b.facts ++ body_fact ∷ []; tables = b.tables ++ table ∷ [] } in
         let more : Pairs = (hung.row, q) ∷ rows in
         let new' : Pairs = (hung.clause, length b.facts) ∷ [] in
-        let grows : Grows rows more = new_grows rows hung.row q none in
+        let grows : Grows (row_of rows) (row_of more) = new_grows rows hung.row q none in
         let made : children schema b (step.Ex f) ≡ Some (c ∷ []) = opened_is b f has.named has.formula (Formula-F.Exists table body) with_row has.is_fact is in
         let at : row_of more hung.row ≡ Some q = new_row_is hung.row q rows in
-        let fact : HasFact problem c more hung.clause (length b.facts) = record {
+        let fact : HasFact problem c (row_of more) hung.clause (length b.facts) = record {
           formula = body;
           variables = has.variables ++ hung.row ∷ [];
           named = has.named ++ q ∷ [];
           stands = hung.stands;
           is_fact = get_middle b.facts body_fact [];
-          names = names_last more has.variables has.named hung.row q (names_more rows more grows has.variables has.named has.names) at;
+          names = names_last (row_of more) has.variables has.named hung.row q (names_more (row_of rows) (row_of more) grows has.variables has.named has.names) at;
         } in
         let done : IsDone problem (new' ++ facts) more (at_way number 0) = record {
           known = (f, in_right new' facts (number, f) known);
@@ -306,10 +306,10 @@ module _ (schema : List Table) (problem : Problem) (hanging : Hanging problem) w
         let all : Grounded problem c (new' ++ facts) more guards = record {
           is = λ k n known. elim (in_either new' facts (k, n) known) [
             | inl fresh ↦ elim fresh [
-              | inl same ↦ subst (λ (p : ℕ × ℕ). HasFact problem c more p.0 p.1) same fact
+              | inl same ↦ subst (λ (p : ℕ × ℕ). HasFact problem c (row_of more) p.0 p.1) same fact
               | inr never ↦ absurd never
             ]
-            | inr old ↦ fact_more problem b rows more grows (body_fact ∷ []) (b.tables ++ table ∷ []) k n (grounded.is k n old)
+            | inr old ↦ fact_more problem b (row_of rows) (row_of more) grows (body_fact ∷ []) (b.tables ++ table ∷ []) k n (grounded.is k n old)
           ];
           tables = λ row named is. elim (named_either hung.row q rows row named is) [
             | inl new ↦ (
@@ -333,7 +333,7 @@ module _ (schema : List Table) (problem : Problem) (hanging : Hanging problem) w
   -- ---- a split whose clause is known
 
   by_layer : (number : ℕ) (parts : List Part) (guards : List Guard) → ways_closed problem.clauses problem.frame number 0 (map meaning (trees parts)) guards ≡ true →
-      (b : Branch) (facts rows : Pairs) → Grounded problem b facts rows guards → (f : ℕ) → IsIn facts (number, f) → (has : HasFact problem b rows number f) →
+      (b : Branch) (facts rows : Pairs) → Grounded problem b facts rows guards → (f : ℕ) → IsIn facts (number, f) → (has : HasFact problem b (row_of rows) number f) →
       (y : Formula-F Formula) → out-Formula has.formula ≡ y → StandsAt problem number y has.variables → Below problem number y has.variables → (vs : List ℕ) →
       length (map meaning (trees parts)) ≡ length (ways_in vs y) → Refuted b
   by_layer number parts guards closed b facts rows grounded f known has (Formula-F.Atom a) is stands hung vs count =

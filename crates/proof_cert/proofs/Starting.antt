@@ -17,7 +17,7 @@ use Rattle.instantiate.specs.Cases.{IsProblem}
 use Rattle.instantiate.specs.Ground.{domains_of}
 use Rattle.instantiate.proofs.Hung.{hangs_together}
 use Rattle.instantiate.specs.Hanging.{IsRoot, Hanging}
-use Rattle.proof_cert.specs.inner.Known.{Pairs, IsIn, IsKnown, HasFact, Grounded}
+use Rattle.proof_cert.specs.inner.Known.{Pairs, IsIn, row_of, IsKnown, HasFact, Grounded}
 use Rattle.proof_cert.proofs.Leaves.{closed_refutes}
 
 module _ (schema : List Table) (problem : Problem) (hanging : Hanging problem) (same_domains : domains_of schema ≡ problem.frame.domains) (start : List Fact)
@@ -28,7 +28,7 @@ module _ (schema : List Table) (problem : Problem) (hanging : Hanging problem) (
   -- the roots of the sentences from a number on
   abbrev Rooted : ℕ → List Formula → Type 0
   Rooted i ss =
-      (pairs : Pairs) × ((clause fact : ℕ) → IsIn pairs (clause, fact) → HasFact problem first [] clause fact)
+      (pairs : Pairs) × ((clause fact : ℕ) → IsIn pairs (clause, fact) → HasFact problem first (row_of []) clause fact)
       × ((sentence j clause : ℕ) → sentence ≡ i + j → j < length ss → IsRoot problem sentence clause → IsKnown pairs clause)
 
   rooted : (i : ℕ) (ss : List Formula) → ((j : ℕ) (f : Formula) → slice_get ss j ≡ Some f → slice_get problem.sentences (i + j) ≡ Some f) → Rooted i ss
@@ -40,7 +40,7 @@ module _ (schema : List Table) (problem : Problem) (hanging : Hanging problem) (
       let fact = stand i f here in
       let rest = rooted (suc i) fs (λ j g there. let e : i + suc j ≡ suc i + j = omega arith in subst (λ n. slice_get problem.sentences n ≡ Some g) e (at (suc j) g there)) in
       let same : root.1.formula ≡ f = same_Some root.1.formula f (sym root.1.is_sentence ∙ here) in
-      let has : HasFact problem first [] root.0 fact.0 = record {
+      let has : HasFact problem first (row_of []) root.0 fact.0 = record {
         formula = root.1.formula;
         variables = [];
         named = [];
@@ -50,7 +50,7 @@ module _ (schema : List Table) (problem : Problem) (hanging : Hanging problem) (
       } in (
         (root.0, fact.0) ∷ rest.0,
         (λ clause n is. elim is [
-          | inl one ↦ subst (λ (p : ℕ × ℕ). HasFact problem first [] p.0 p.1) one has
+          | inl one ↦ subst (λ (p : ℕ × ℕ). HasFact problem first (row_of []) p.0 p.1) one has
           | inr later ↦ rest.1 clause n later
         ]),
         λ sentence j clause is low other. known_at i fs root.0 fact.0 rest sentence j clause is low (λ e. root.2 clause (subst (λ s. IsRoot problem s clause) e other)) other,

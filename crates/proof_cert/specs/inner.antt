@@ -1,1 +1,6 @@
 pub mod Known
+pub mod Ranks
+pub mod Paths
+pub mod Leaves
+pub mod Reaching
+pub mod Writing

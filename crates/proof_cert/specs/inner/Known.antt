@@ -21,25 +21,25 @@ abbrev pub row_of : Pairs → ℕ → Option ℕ
 row_of [] row = None
 row_of (p ∷ ps) row = if nat_eq p.0 row then Some p.1 else row_of ps row
 
--- the rows of the branch are those of the row terms
-abbrev pub Names : Pairs → List ℕ → List ℕ → Type 0
-Names rows [] [] = Unit {0}
-Names rows [] (r ∷ rs) = ⊥
-Names rows (v ∷ vs) [] = ⊥
-Names rows (v ∷ vs) (r ∷ rs) = (row_of rows v ≡ Some r) × Names rows vs rs
+-- the rows of the branch are those of the row terms, by what is the row of each
+abbrev pub Names : (ℕ → Option ℕ) → List ℕ → List ℕ → Type 0
+Names row_for [] [] = Unit {0}
+Names row_for [] (r ∷ rs) = ⊥
+Names row_for (v ∷ vs) [] = ⊥
+Names row_for (v ∷ vs) (r ∷ rs) = (row_for v ≡ Some r) × Names row_for vs rs
 
 abbrev pub IsKnown : Pairs → ℕ → Type 0
 IsKnown facts clause = (fact : ℕ) × IsIn facts (clause, fact)
 
 module _ (problem : Problem) where
   -- the fact of the branch is what stands at the clause
-  pub record HasFact (branch : Branch) (rows : Pairs) (clause fact : ℕ) : Type 0 where
+  pub record HasFact (branch : Branch) (row_for : ℕ → Option ℕ) (clause fact : ℕ) : Type 0 where
     pub formula : Formula
     pub variables : List ℕ
     pub named : List ℕ
     pub stands : StandsAt problem clause (out-Formula formula) variables
     pub is_fact : slice_get branch.facts fact ≡ Some (fact_of named formula)
-    pub names : Names rows variables named
+    pub names : Names row_for variables named
 
   -- the clause is known, and so is what hangs below its way, with its row if it makes one
   pub record IsDone (facts rows : Pairs) (guard : Guard) : Type 0 where
@@ -48,7 +48,7 @@ module _ (problem : Problem) where
     pub made : (row table : ℕ) → IsMaker problem row guard.clause table → (named : ℕ) × (row_of rows row ≡ Some named)
 
   pub record Grounded (branch : Branch) (facts rows : Pairs) (guards : List Guard) : Type 0 where
-    pub is : (clause fact : ℕ) → IsIn facts (clause, fact) → HasFact branch rows clause fact
+    pub is : (clause fact : ℕ) → IsIn facts (clause, fact) → HasFact branch (row_of rows) clause fact
     pub tables : (row named : ℕ) → row_of rows row ≡ Some named → (table : ℕ) × (slice_get branch.tables named ≡ Some table) × (slice_get problem.frame.tables row ≡ Some table)
     pub made : (row named maker table : ℕ) → row_of rows row ≡ Some named → IsMaker problem row maker table → IsDone facts rows (record { clause = maker; way = 0 })
     pub done : (guard : Guard) → is_among guards guard ≡ true → IsDone facts rows guard
