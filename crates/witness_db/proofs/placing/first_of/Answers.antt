@@ -3,7 +3,7 @@ use Rattle.std.proofs.lemmas.Bool.{and_from}
 use Rattle.std.specs.Prelude.{slice_get, unwrap_or}
 use Rattle.ground_theory.specs.Assignments.{are_one}
 use Rattle.witness_db.specs.inner.Placing.{is_there, is_alike}
-use Rattle.witness_db.proofs.FirstFound.{first_found}
+use Rattle.insert_lines.proofs.FirstFound.{first_found}
 use Rattle.witness_db.proofs.placing.first_of.Goals as goal
 
 pub returns-then-are_one-clause-first : goal.returns-then-are_one-clause-first
