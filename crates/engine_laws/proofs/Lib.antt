@@ -1,0 +1,5 @@
+pub mod Causes
+pub mod Going
+pub mod EarlierHold
+pub mod ConstantValue
+pub mod Fitting

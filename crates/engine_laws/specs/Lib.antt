@@ -1,0 +1,5 @@
+pub mod JudgedBy
+pub mod Limits
+pub mod Asking
+pub mod Earlier
+pub mod AskingAll
