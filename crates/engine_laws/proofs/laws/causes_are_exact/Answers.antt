@@ -1,8 +1,0 @@
-use Rattle.engine_laws.proofs.Causes.{nesting, large}
-use Rattle.engine_laws.proofs.laws.causes_are_exact.Goals as goal
-
-pub returns-clause-nesting : goal.returns-clause-nesting
-returns-clause-nesting c = nesting
-
-pub returns-clause-large : goal.returns-clause-large
-returns-clause-large c = large

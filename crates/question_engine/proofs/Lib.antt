@@ -1,0 +1,12 @@
+pub mod Causes
+pub mod Going
+pub mod EarlierHold
+pub mod ConstantValue
+pub mod Fitting
+pub mod Judged
+pub mod Listed
+pub mod Looking
+pub mod Plain
+pub mod Turns
+pub mod Passed
+pub mod Ready

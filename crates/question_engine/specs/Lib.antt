@@ -1,0 +1,6 @@
+pub mod JudgedBy
+pub mod Limits
+pub mod Asking
+pub mod Earlier
+pub mod AskingAll
+pub mod inner

@@ -1,0 +1,4 @@
+pub mod Problems
+pub mod Sought
+pub mod Plain
+pub mod Turns
