@@ -1,15 +1,17 @@
 #!/usr/bin/env bash
-# How long the proved program takes to read and bind query files of 512 KiB and 1 MiB of ordinary queries, and how much
-# memory it takes. Outside the gate: it prints what this machine does, and promises nothing. Run it at the top:
-# bench/reading.sh
+# How long the proved program takes to read and bind query files of 512 KiB and 1 MiB of ordinary queries and to list
+# their questions, and how much memory it takes. Nothing is judged: each run checks a file of no certificates. Outside the
+# gate: it prints what this machine does, and promises nothing. Run it at the top: bench/reading.sh
 set -eu
 top=$(cd "$(dirname "$0")/.." && pwd)
 work=$(mktemp -d)
 trap 'rm -rf "$work"' EXIT
 schema=$top/examples/shop/schema.sql
+certs=$work/none.json
+printf '{"certs":[],"sqllint":1}\n' > "$certs"
 
 # built first, where that is still to be done
-"$top/sqllint" "$schema" /dev/null > /dev/null || true
+"$top/sqllint" --check "$certs" "$schema" /dev/null > /dev/null || true
 program=$(echo "$top"/out/sqllint/*/sqllint)
 
 # ordinary queries, again and again, to at most so many bytes
@@ -34,7 +36,7 @@ least() {
     for _ in 1 2 3 4 5; do
         local from to
         from=$(date +%s%N)
-        "$program" "$schema" "$1" > /dev/null || true
+        "$program" --check "$certs" "$schema" "$1" > /dev/null || true
         to=$(date +%s%N)
         echo $(((to - from) / 1000000))
     done | sort -n | head -n 1
@@ -47,7 +49,7 @@ whole=$(least "$work/whole.sql")
 echo "$(wc -c < "$work/half.sql") bytes: $half milliseconds"
 echo "$(wc -c < "$work/whole.sql") bytes, $(wc -l < "$work/whole.sql") queries: $whole milliseconds"
 awk -v h="$half" -v w="$whole" 'BEGIN { printf "twice the text takes %.2f times as long\n", w / h }'
-python3 - "$program" "$schema" "$work/whole.sql" <<'PYTHON'
+python3 - "$program" --check "$certs" "$schema" "$work/whole.sql" <<'PYTHON'
 import resource, subprocess, sys
 subprocess.run(sys.argv[1:], stdout=subprocess.DEVNULL)
 print(f"memory at most: {resource.getrusage(resource.RUSAGE_CHILDREN).ru_maxrss // 1024} MiB")

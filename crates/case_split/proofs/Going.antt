@@ -5,7 +5,6 @@ use Rattle.std.specs.Prelude.{Option, Some, None}
 use Rattle.ground_theory.specs.declared.literal.Assignment.{Assignment}
 use Rattle.ground_theory.specs.declared.literal.Clause.{Clause}
 use Rattle.ground_theory.specs.declared.literal.Frame.{Frame}
-use Rattle.ground_theory.specs.Assignments.{HasAssignment}
 use Rattle.ground_theory.specs.Judging.{Settles}
 use Rattle.case_split.specs.declared.state.Entry.{Entry}
 use Rattle.case_split.specs.declared.state.State.{State}
@@ -24,15 +23,6 @@ module _ (clauses : List Clause) (frame : Frame) where
   pub spread_search : (s : State) (fork : Option ℕ) → IsSpreading clauses frame s (length clauses) fork → IsSearch clauses frame s (entries_of s)
   spread_search s None is = ready_search s (length clauses) is
   spread_search s (Some number) is = ready_search s number is.1
-
-  has_one : (s : State) (a : Assignment) → Settles frame (literals_of clauses s.chosen.items) a → HasAssignment frame (literals_of clauses s.chosen.items)
-  has_one s a settles = record { assignment = a; is = settles.is; satisfied = settles.satisfied }
-
-  pub go_fork : (s t : State) (number : ℕ) (a : Assignment) → IsSpreading clauses frame s (length clauses) (Some number) → IsSettled clauses frame s t (settled.Holds a) →
-      IsAdvance clauses frame t (advance.Fork number)
-  go_fork s t number a is settles =
-      subst (λ (u : State). IsReady clauses frame u number × IsFork clauses frame u number × HasAssignment frame (literals_of clauses u.chosen.items)) (sym settles.0)
-      (is.1, is.2, has_one s a settles.1)
 
   pub go_full : (s t : State) (a : Assignment) → IsReady clauses frame s (length clauses) → IsSettled clauses frame s t (settled.Holds a) → IsAdvance clauses frame t (advance.Full a)
   go_full s t a is settles =

@@ -11,3 +11,4 @@ pub mod Leaving
 pub mod Splitting
 pub mod Literals
 pub mod Going
+pub mod Pairs

@@ -11,7 +11,9 @@
 //!
 //! How `search` goes: `state` takes the one way of each clause as soon as its guards are among the
 //! choices, wherever it stands, in one pass over the clauses behind the last split; a guard that
-//! names no earlier clause is never met. `taking` judges the literals of all ways taken together.
+//! names no earlier clause is never met. Where a way is to be chosen next, the assignment that was
+//! judged last is tried on the literals of all ways taken (`trying`); where it satisfies them, they
+//! need not be judged. `taking` judges the literals of all ways taken together.
 //! A conflict marks the ways that it cites as needed. On the way back an entry that is not needed
 //! is left without trying its other ways, and its closed trees are given up.
 //!
@@ -28,6 +30,7 @@ mod searching;
 mod state;
 mod taking;
 mod tree;
+mod trying;
 
 pub use giving_up::give_up;
 pub use laws::{

@@ -1,14 +1,16 @@
 //! The search for the first full case.
-ghost use Rattle.std.specs.Prelude.{◌≡◌, ◌≤◌, true, length, IfOk};
+ghost use Rattle.std.specs.Prelude.{◌≡◌, ◌≤◌, true, length, IfOk, Some, None};
 ghost use Rattle.ground_theory.specs.Judgeable.{is_frame};
 ghost use Rattle.case_split.specs.Answers.{IsAnswer};
 ghost use Rattle.case_split.specs.Fitting.{are_fit, have_few_ways};
 ghost use Rattle.case_split.specs.inner.Entries.{IsReady, IsSpreading};
+ghost use Rattle.case_split.specs.inner.Kept.{IsKept};
 ghost use Rattle.case_split.specs.inner.Steps.{IsAdvance};
 
 use crate::state::{Closing, Entry, Spread, State, give_up_all};
 use crate::taking::{Settled, settle};
 use crate::tree::{Branch, CaseTree, Found};
+use crate::trying::is_kept;
 use ground_theory::{Assignment, Clause, Frame};
 use lint_base::{Items, NoMemory};
 use std::alloc::Global;
@@ -21,43 +23,74 @@ pub(crate) enum Advance {
     Conflict(CaseTree),
 }
 
-/// Judges the literals of all ways taken together; a way of the clause is chosen next, if there is
-/// one.
-fn judge_taken(
+/// Judges the literals of all ways taken together where the kept assignment does not satisfy them.
+/// A way of the clause is chosen next.
+fn judge_before(
     alloc: Global,
     clauses: &[Clause],
     frame: &Frame,
     state: &mut State,
-    fork: Option<usize>,
+    kept: &mut Option<Assignment>,
+    number: usize,
 ) -> Result<Advance, NoMemory>
     requires frame { is_frame frame.now ≡ true }
     requires fitting { are_fit frame.now clauses.now ≡ true }
     requires count { length clauses.now ≤ 400000 }
-    requires spreading { IsSpreading clauses.now frame.now state.old (length clauses.now) fork }
+    requires spreading { let count = length clauses.now in
+        IsSpreading clauses.now frame.now state.old count (Some number) }
+    requires kept { IsKept frame.now kept.old }
+    ensures kept { IsKept frame.now kept.new }
+    ensures advance { IfOk result (λ advance.
+        IsAdvance clauses.now frame.now state.new advance) }
+{
+    if is_kept(kept, clauses, frame, &state.chosen) {
+        return Ok(Advance::Fork(number));
+    }
+    match settle(alloc, clauses, frame, state)? {
+        Settled::Clash(tree) => Ok(Advance::Conflict(tree)),
+        Settled::Holds(assignment) => {
+            *kept = Some(assignment);
+            Ok(Advance::Fork(number))
+        }
+    }
+}
+
+/// Judges the literals of a full case, so that its assignment is plain.
+fn judge_full(
+    alloc: Global,
+    clauses: &[Clause],
+    frame: &Frame,
+    state: &mut State,
+) -> Result<Advance, NoMemory>
+    requires frame { is_frame frame.now ≡ true }
+    requires fitting { are_fit frame.now clauses.now ≡ true }
+    requires count { length clauses.now ≤ 400000 }
+    requires spreading { IsSpreading clauses.now frame.now state.old (length clauses.now) None }
     ensures { IfOk result (λ advance. IsAdvance clauses.now frame.now state.new advance) }
 {
     match settle(alloc, clauses, frame, state)? {
         Settled::Clash(tree) => Ok(Advance::Conflict(tree)),
-        Settled::Holds(assignment) => match fork {
-            Some(number) => Ok(Advance::Fork(number)),
-            None => Ok(Advance::Full(assignment)),
-        },
+        Settled::Holds(assignment) => Ok(Advance::Full(assignment)),
     }
 }
 
-/// Takes what follows from the ways taken, and judges all literals together.
+/// Takes what follows from the ways taken, and tries or judges all literals together.
 fn go_on(
     alloc: Global,
     clauses: &[Clause],
     frame: &Frame,
     state: &mut State,
+    kept: &mut Option<Assignment>,
     from: usize,
 ) -> Result<Advance, NoMemory>
     requires frame { is_frame frame.now ≡ true }
     requires fitting { are_fit frame.now clauses.now ≡ true }
     requires count { length clauses.now ≤ 400000 }
     requires ready { IsReady clauses.now frame.now state.old from }
-    ensures { IfOk result (λ advance. IsAdvance clauses.now frame.now state.new advance) }
+    requires kept { IsKept frame.now kept.old }
+    ensures kept { IsKept frame.now kept.new }
+    ensures advance { IfOk result (λ advance.
+        IsAdvance clauses.now frame.now state.new advance) }
 {
     let spread = state.spread(alloc, clauses, frame, from)?;
     match spread {
@@ -67,7 +100,8 @@ fn go_on(
             let cases = Items::new(alloc);
             Ok(Advance::Conflict(CaseTree::Split { clause, cases }))
         }
-        Spread::On(fork) => judge_taken(alloc, clauses, frame, state, fork),
+        Spread::On(Some(number)) => judge_before(alloc, clauses, frame, state, kept, number),
+        Spread::On(None) => judge_full(alloc, clauses, frame, state),
     }
 }
 
@@ -95,9 +129,10 @@ pub fn search(
     ensures { IfOk result (λ found. IsAnswer clauses.now frame.now budget found) }
 {
     let mut state = State::new(alloc, clauses, frame)?;
+    let mut kept = None;
     let mut from = 0;
     for round in 0..u64::MAX {
-        match go_on(alloc, clauses, frame, &mut state, from)? {
+        match go_on(alloc, clauses, frame, &mut state, &mut kept, from)? {
             Advance::Full(assignment) => {
                 let State {
                     chosen,

@@ -3,6 +3,8 @@ ghost use Rattle.std.specs.Prelude.{◌≡◌, ◌↔◌, ℕ, true, false, Some
 ghost use Rattle.lint_core.specs.declared.database.Database.{Database};
 ghost use Rattle.lint_core.specs.Meets.{meets};
 ghost use Rattle.constraint_axioms.specs.declared.axiom.Axiom.{Axiom as Made};
+ghost use Rattle.constraint_axioms.specs.Spoken.{spoken};
+ghost use Rattle.sort_formula.specs.Axioms.{axioms as constraints};
 ghost use Rattle.sort_formula.specs.Certificate.{fact_of, accepts, first_wrong, wrong_step};
 ghost use Rattle.sort_formula.specs.Holds.{holds};
 ghost use Rattle.sort_formula.specs.Sentences.{formula_fits};
@@ -59,6 +61,35 @@ fn first_wrong(
     }
 }
 
+/// As `check_sentence`, with the axioms of the schema at hand: who checks many certificates makes
+/// them once.
+pub fn check_sentence_with_axioms(
+    alloc: Global,
+    schema: &Schema,
+    axioms: &[Axiom],
+    sentence: &Sentence,
+    steps: &[Step],
+) -> Result<Checked, NoMemory>
+    requires listed { map spoken axioms.now ≡ constraints schema.now }
+    requires fits { formula_fits schema.now sentence.now [] ≡ true }
+    ensures accepted { IfOk result (λ answer. (answer ≡ checked.Accepted)
+        ↔ (accepts schema.now sentence.now steps.now ≡ true)) }
+    ensures refused { IfOk result (λ answer. (step : ℕ) → (answer ≡ checked.Refused step)
+        ↔ (wrong_step schema.now sentence.now steps.now ≡ Some step)) }
+    ensures never_needs { IfOk result (λ answer. (question : ℕ) →
+        answer ≡ checked.Needs question → ⊥) }
+    ensures sound { IfOk result (λ answer. answer ≡ checked.Accepted → (db : Database) →
+        meets schema.now db ≡ true → holds db sentence.now [] ≡ false) }
+{
+    accepted_sentence_fails();
+    wrong_steps_are_numbered();
+    let facts = first_facts(alloc, sentence, axioms)?;
+    match first_wrong(alloc, schema.tables().as_slice(), facts, steps)? {
+        Some(step) => Ok(Checked::Refused { step }),
+        None => Ok(Checked::Accepted),
+    }
+}
+
 /// Whether the steps refute a sentence that fits the schema, given that all constraints of the
 /// schema hold. Accepted exactly where they do; then the sentence holds in no database that meets
 /// the schema. Refused names the first wrong step: the first that is not right in its turn; where
@@ -81,12 +112,6 @@ pub fn check_sentence(
     ensures sound { IfOk result (λ answer. answer ≡ checked.Accepted → (db : Database) →
         meets schema.now db ≡ true → holds db sentence.now [] ≡ false) }
 {
-    accepted_sentence_fails();
-    wrong_steps_are_numbered();
     let axioms = axioms(alloc, schema)?;
-    let facts = first_facts(alloc, sentence, &axioms)?;
-    match first_wrong(alloc, schema.tables().as_slice(), facts, steps)? {
-        Some(step) => Ok(Checked::Refused { step }),
-        None => Ok(Checked::Accepted),
-    }
+    check_sentence_with_axioms(alloc, schema, &axioms, sentence, steps)
 }

@@ -32,6 +32,20 @@ pub fn cert_json(alloc: Global, certs: &[Cert]) -> Result<Vec<u8>, NoMemory>
     Ok(out.into_bytes())
 }
 
+/// The same of certificates that stand in several places.
+pub fn certs_json(alloc: Global, certs: &[&Cert]) -> Result<Vec<u8>, NoMemory>
+    ensures text { IfOk result (λ bytes. bytes.items ≡ file_text (map (λ c. c.now) certs.now)) }
+    ensures reads_back { IfOk result (λ bytes.
+        list_all is_numbered (map (λ c. c.now) certs.now) ≡ true
+        → ReadsAs bytes.items (map (λ c. c.now) certs.now)) }
+{
+    let mut out = String::new(alloc);
+    out.push_str("{\"certs\":")?;
+    push_list(alloc, &mut out, certs)?;
+    out.push_str(",\"sqllint\":1}\n")?;
+    Ok(out.into_bytes())
+}
+
 /// The values of a file's certificates, where it has the outer form.
 fn cert_values(json: &Json) -> Option<&Vec<Json>>
     ensures { option_map (λ v. items_view v.now.items) result ≡ certs_found (view json.now) }

@@ -1,6 +1,6 @@
 //! Files of certificates: their text, and how they are read.
 //!
-//! The layer above may use `cert_json`, `read_certs` and `CertFault`. Of `specs/` a reader must
+//! The layer above may use `cert_json` and `certs_json`, `read_certs` and `CertFault`. Of `specs/` a reader must
 //! believe `Forms` (the JSON value of each part of a certificate), `Fitting` (which numbers and
 //! texts may stand there) and `CertFile` (the text of a file, which certificates a file has, and
 //! why it has none). What JSON is they leave to `read` and `compact_text` of `serde_json`.
@@ -17,10 +17,8 @@ mod laws;
 mod name;
 mod reading;
 mod steps;
-#[cfg(test)]
-mod tests;
 mod writing;
 
 pub use fault::CertFault;
-pub use file::{cert_json, read_certs};
+pub use file::{cert_json, certs_json, read_certs};
 pub use laws::files_have_one_reading;

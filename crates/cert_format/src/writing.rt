@@ -48,6 +48,16 @@ impl ToJson for Option<u32> {
     }
 }
 
+impl<T: ToJson> ToJson for &T {
+    ghost form = { λ part. T.form part.now };
+
+    ghost fits = { λ part. T.fits part.now };
+
+    fn push(&self, alloc: Global, out: &mut String) -> Result<(), AllocError> {
+        T::push(*self, alloc, out)
+    }
+}
+
 impl<T: ToJson> ToJson for Items<T> {
     ghost form = { λ parts. list (map T.form parts) };
 

@@ -5,7 +5,6 @@ pub mod Rings
 pub mod SumLeaves
 pub mod Facts
 pub mod TextLeaves
-pub mod TextFacts
 pub mod Exclusion
 pub mod Widened
 pub mod Relabelling

@@ -7,7 +7,6 @@ pub mod Fitting
 pub mod Judgeable
 pub mod Edges
 pub mod SumLeaf
-pub mod Values
 pub mod TextEdges
 pub mod TextLeaf
 pub mod Examples

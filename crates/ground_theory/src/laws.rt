@@ -1,44 +1,29 @@
 //! What a solver's answers about the bounds and texts of literals say of the literals, what a
 //! right leaf says of them, and how it moves. The functions do nothing: each contract is a law
 //! about the definitions in `specs/`.
-ghost use Rattle.std.specs.Prelude.{◌≡◌, ◌≤◌, ◌<◌, ℕ, ℤ, true, List, [], All, length, map, Option, Some, slice_get};
-ghost use Rattle.std.specs.List.{Contains};
+ghost use Rattle.std.specs.Prelude.{◌≡◌, ◌≤◌, ℕ, true, List, [], length, Option, Some, slice_get};
 ghost use Rattle.diff_bounds.specs.declared.system.Edge.{Edge};
 ghost use Rattle.diff_bounds.specs.Rings.{IsNegativeRing, IsSimple};
-ghost use Rattle.diff_bounds.specs.System.{IsAmong, IsModerate, Satisfies};
 ghost use Rattle.lint_core.specs.declared.certificate.Step.{Step};
 ghost use Rattle.lint_core.specs.declared.certificate.SumEdge.{SumEdge};
 ghost use Rattle.lint_core.specs.declared.certificate.TextEdge.{TextEdge};
 ghost use Rattle.lint_core.specs.declared.schema.Table.{Table};
 ghost use Rattle.sort_formula.specs.declared.formula.Side.{Side};
-ghost use Rattle.sort_formula.specs.declared.formula.Side.TheVariants.{Zero, Text};
 ghost use Rattle.sort_formula.specs.Certificate.{children};
 ghost use Rattle.sort_formula.specs.Facts.{Branch};
-ghost use Rattle.text_classes.specs.declared.facts.TextEnd.{TextEnd};
 ghost use Rattle.text_classes.specs.declared.facts.TextFact.{TextFact};
 ghost use Rattle.text_classes.specs.Paths.{IsPath};
 ghost use Rattle.text_classes.specs.Texts as classes;
 ghost use Rattle.ground_theory.specs.declared.literal.Frame.{Frame};
 ghost use Rattle.ground_theory.specs.declared.literal.Literal.{Literal};
 ghost use Rattle.ground_theory.specs.Assignments.{HasAssignment};
-ghost use Rattle.ground_theory.specs.Edges.{edge_of, sum_edges, IsSystem};
-ghost use Rattle.ground_theory.specs.Fitting.{all_fit, are_moderate, has_domains, has_ranges};
+ghost use Rattle.ground_theory.specs.Edges.{IsSystem};
+ghost use Rattle.ground_theory.specs.Fitting.{all_fit, has_domains, has_ranges};
 ghost use Rattle.ground_theory.specs.Leaves.{is_right_leaf};
 ghost use Rattle.ground_theory.specs.Moving.{moved, IsMoved};
 ghost use Rattle.ground_theory.specs.SumLeaf.{sum_leaf};
-ghost use Rattle.ground_theory.specs.TextEdges.{text_edges, texts_of, text_fact, HasEnds, IsTextSystem};
+ghost use Rattle.ground_theory.specs.TextEdges.{IsTextSystem};
 ghost use Rattle.ground_theory.specs.TextLeaf.{text_leaf};
-ghost use Rattle.ground_theory.specs.Values.{IsTextMet};
-
-/// Of literals that fit, the bounds that they ask for are not too large for `solve`, where the
-/// domains are those of a schema's columns, whatever part of them is taken and however the sides
-/// are numbered.
-pub fn systems_are_moderate()
-    ensures { (frame : Frame) (literals : List Literal) (number : Side → ℕ)
-        (origins : List SumEdge) → all_fit frame literals ≡ true → has_domains frame ≡ true
-        → are_moderate literals ≡ true → All (Contains (sum_edges frame literals)) origins
-        → All IsModerate (map (edge_of frame literals number) origins) }
-{}
 
 /// The domains of a schema's columns are ranges that are not empty.
 pub fn domains_are_ranges()
@@ -56,37 +41,12 @@ pub fn rings_make_leaves()
         → is_right_leaf frame literals (sum_leaf frame literals origins ring) ≡ true }
 {}
 
-/// Of literals that fit, the facts about texts that they ask for are a system, whatever part of
-/// them is taken and however the sides are numbered.
-pub fn literals_make_texts()
-    ensures { (frame : Frame) (literals : List Literal) (side_of : ℕ → Side)
-        (end_of_side : Side → TextEnd) (origins : List TextEdge) → all_fit frame literals ≡ true
-        → All (Contains (text_edges frame literals)) origins
-        → All (HasEnds frame literals side_of end_of_side) origins
-        → IsTextSystem frame literals side_of origins
-        (map (text_fact frame literals end_of_side) origins) }
-{}
-
 /// A path of the system's facts makes a right leaf. `classes` answers such a path.
 pub fn paths_make_leaves()
     ensures { (frame : Frame) (literals : List Literal) (side_of : ℕ → Side)
         (origins : List TextEdge) (facts : List TextFact) (last : Option ℕ) (path : List ℕ)
         → IsTextSystem frame literals side_of origins facts → IsPath facts last path
         → is_right_leaf frame literals (text_leaf origins facts last path) ≡ true }
-{}
-
-/// Texts that satisfy the system's facts meet each literal whose facts are in the system: they
-/// satisfy a TextEq and a TextNe, and are the same in rows that are one.
-pub fn texts_meet_literals()
-    ensures { (frame : Frame) (literals : List Literal) (side_of : ℕ → Side) (vars : ℕ)
-        (origins : List TextEdge) (facts : List TextFact) (value : ℕ → List ℕ)
-        (texts : Side → List ℕ) → IsTextSystem frame literals side_of origins facts
-        → All (classes.IsAmong vars) facts → classes.Satisfies value facts
-        → ((n : ℕ) → n < vars → texts (side_of n) ≡ value n)
-        → ((text : List ℕ) → texts (Text text) ≡ text)
-        → (fact : ℕ) (l : Literal) → slice_get literals fact ≡ Some l
-        → All (Contains origins) (texts_of frame fact l.atom)
-        → IsTextMet frame literals texts l.atom }
 {}
 
 /// Where a leaf is right over literals, no assignment satisfies them.

@@ -15,16 +15,14 @@
 //! `ring` makes the leaf of a ring), their texts from that of `text_classes` (`texts`; `chains`
 //! makes the leaf of a path), and `assignment` lists the values.
 //!
-//! The laws are functions that do nothing: their contracts are about the definitions alone. What
-//! literals ask of the solvers (`systems_are_moderate`, `domains_are_ranges`,
-//! `literals_make_texts`); from a solver's ring or path to a right leaf (`rings_make_leaves`,
-//! `paths_make_leaves`); from texts back to the literals (`texts_meet_literals`). A right leaf
-//! excludes every assignment (`right_leaves_exclude`), and stays right where facts have other
-//! numbers and rows other names (`leaves_move`). `worked_leaves` are small examples.
+//! The laws are functions that do nothing: their contracts are about the definitions alone. The
+//! domains of columns are ranges (`domains_are_ranges`); a solver's ring or path makes a right leaf
+//! (`rings_make_leaves`, `paths_make_leaves`). A right leaf excludes every assignment
+//! (`right_leaves_exclude`), and stays right where facts have other numbers and rows other names
+//! (`leaves_move`). `worked_leaves` are small examples.
 //!
 //! Of `specs/` a reader must believe `Assignments`, `Leaves`, `Fitting`, `Judgeable`, `Judging` and
-//! `Moving`; of the laws about solvers `Edges`, `SumLeaf`, `TextEdges`, `TextLeaf` and `Values`
-//! too. `Forward` says that guards name earlier clauses: no clause here cites it, the layers above
+//! `Moving`; of the laws about solvers `Edges`, `SumLeaf`, `TextEdges` and `TextLeaf` too. `Forward` says that guards name earlier clauses: no clause here cites it, the layers above
 //! do. `Examples` are the literals of `worked_leaves` and of those tests. `specs/inner` is cited by
 //! private clauses and proofs alone.
 #![tactic(auto)]
@@ -47,8 +45,7 @@ mod worked;
 
 pub use judging::judge;
 pub use laws::{
-    domains_are_ranges, leaves_move, literals_make_texts, paths_make_leaves, right_leaves_exclude,
-    rings_make_leaves, systems_are_moderate, texts_meet_literals,
+    domains_are_ranges, leaves_move, paths_make_leaves, right_leaves_exclude, rings_make_leaves,
 };
 pub use literal::{Assignment, Clause, Conflict, Frame, Guard, Judged, Literal};
 pub use worked::worked_leaves;

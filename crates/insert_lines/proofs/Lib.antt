@@ -1,3 +1,4 @@
 pub mod Appends
 pub mod Quotes
 pub mod FirstFound
+pub mod PlainWords

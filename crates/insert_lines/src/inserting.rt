@@ -44,7 +44,7 @@ fn are_plain_word(bytes: &[u8]) -> bool
 
 /// Whether the name stands in a query as it is: an upper-case letter, and then such letters,
 /// digits and `_`, and no reserved word (ISO/IEC 9075:1992, 5.2).
-#[tactic(auto, using(lint_core::proofs::PlainWords::plain_bytes))]
+#[tactic(auto, using(crate::proofs::PlainWords::plain_bytes))]
 pub fn is_plain_word(name: &Str) -> bool
     ensures { result ≡ is_plain_word name.now }
 {

@@ -1,5 +1,6 @@
 pub mod Keys
 pub mod Ground
+pub mod Groundable
 pub mod Cases
 pub mod Hanging
 pub mod Plain

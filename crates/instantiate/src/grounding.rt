@@ -1,13 +1,11 @@
 //! The ground list of sentences.
-ghost use Rattle.std.specs.Prelude.{◌≡◌, ◌≤◌, ◌<◌, ◌^◌, [], true, suc, length, map, All, IfOk, IfErr};
+ghost use Rattle.std.specs.Prelude.{◌≡◌, ◌≤◌, [], true, suc, length, map, IfOk, IfErr};
 ghost use Rattle.std.specs.List.{list_all};
-ghost use Rattle.sort_formula.specs.Nodes.{nodes};
 ghost use Rattle.sort_formula.specs.Sentences.{formula_fits};
-ghost use Rattle.sorted_skolem.specs.Graph.{IsOrder};
 ghost use Rattle.sorted_skolem.specs.Preorder.{outlines_of};
-ghost use Rattle.sorted_skolem.specs.Terms.{row_terms};
 ghost use Rattle.instantiate.specs.Cases.{IsProblem};
 ghost use Rattle.instantiate.specs.Ground.{keys, clauses_of, domains_of, frame_of};
+ghost use Rattle.instantiate.specs.Groundable.{AreGroundable};
 ghost use Rattle.instantiate.specs.Stops.{IsTooMany};
 ghost use Rattle.instantiate.specs.inner.Listings.{IsListing};
 
@@ -53,10 +51,7 @@ pub(crate) fn listing<'a>(
     order: &'a [u32],
     terms: &'a [RowTerm],
 ) -> Result<Listing<'a>, GroundStop>
-    requires order { IsOrder sentences.now order.now }
-    requires rows { terms.now ≡ row_terms (outlines_of sentences.now) order.now }
-    requires few { length terms.now ≤ 512 }
-    requires nodes { All (λ s. nodes s < 2 ^ 32) sentences.now }
+    requires { AreGroundable sentences.now order.now terms.now }
     ensures ready { IfOk result IsListing }
     ensures sentences { IfOk result (λ l. l.sentences.now ≡ sentences.now) }
     ensures order { IfOk result (λ l. l.order.now ≡ order.now) }
@@ -92,10 +87,7 @@ fn all_clauses(
     order: &[u32],
     terms: &[RowTerm],
 ) -> Result<Items<Clause>, GroundStop>
-    requires order { IsOrder sentences.now order.now }
-    requires rows { terms.now ≡ row_terms (outlines_of sentences.now) order.now }
-    requires few { length terms.now ≤ 512 }
-    requires nodes { All (λ s. nodes s < 2 ^ 32) sentences.now }
+    requires { AreGroundable sentences.now order.now terms.now }
     ensures clauses { IfOk result (λ clauses. clauses
         ≡ clauses_of (outlines_of sentences.now) order.now terms.now) }
     ensures few { IfOk result (λ clauses. length clauses ≤ 400000) }
@@ -158,10 +150,7 @@ pub fn ground(
     numbers: Items<u32>,
 ) -> Result<Problem, GroundStop>
     requires fits { list_all (λ s. formula_fits schema.now s []) sentences ≡ true }
-    requires order { IsOrder sentences order.tables }
-    requires rows { rows.terms ≡ row_terms (outlines_of sentences) order.tables }
-    requires few { length rows.terms ≤ 512 }
-    requires nodes { All (λ s. nodes s < 2 ^ 32) sentences }
+    requires ready { AreGroundable sentences order.tables rows.terms }
     requires numbers { length numbers ≡ suc (length sentences) }
     ensures problem { IfOk result (λ p. IsProblem schema.now p) }
     ensures sentences { IfOk result (λ p. p.sentences ≡ sentences) }

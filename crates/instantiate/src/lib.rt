@@ -10,7 +10,7 @@
 //!
 //! The layer above may use the types and these calls, and cite the laws. A reader must believe
 //! `specs/Keys` (which clauses there are, and in which order), `specs/Ground` (what stands in
-//! each), `specs/Stops` (when the list is not made), `specs/Cases` (what a problem is, and which
+//! each), `specs/Groundable` (of what it is made), `specs/Stops` (when it is not made), `specs/Cases` (what a problem is, and which
 //! database a full case of one makes, of which the laws of `witness_db` speak), `specs/Hanging`
 //! (how the clauses of a problem hang together) and `specs/Plain` (what stands at the nodes under
 //! no Forall). The last two are all that the layers above have to know of the numbers of clauses

@@ -8,5 +8,3 @@ pub mod Described
 pub mod Parted
 pub mod LevelTables
 pub mod Fitting
-pub mod PlainWords
-pub mod FirstForms

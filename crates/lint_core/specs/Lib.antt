@@ -22,4 +22,3 @@ pub mod Forms
 pub mod Question
 pub mod QueryAnswer
 pub mod PlainWord
-pub mod FirstForm

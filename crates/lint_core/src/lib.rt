@@ -6,11 +6,9 @@
 //! `Truth`, `Comparison`, `Evaluation`, `Condition` and `QueryAnswer` (what SQL means), `Asked`
 //! with `Parts`, `Conjuncts`, `Predicates`, `Subqueries` and `Naming` (which questions are asked),
 //! `Points`, `Forms` and `Question` (when they fail), `DatabaseFits` (which databases a call
-//! takes), `FirstForm` and `PlainWord` (which queries are judged so far).
-//!
-//! The law `first_form_is_tested` is the contract of a function that does nothing: the test of the
-//! first form says yes exactly of these queries. What the definitions say in the subject's own
-//! words, and by small examples, stands in the crates `meaning_laws` and `worked_laws`.
+//! takes), `PlainWord` (which names stand in a query without quotes). What they say in the
+//! subject's own words, and by small examples, stands in the crates `meaning_laws` and
+//! `worked_laws`.
 //!
 //! Of wrong bodies the contracts let through only copies that answer `NoMemory` though there is
 //! memory, since no clause can say when memory ends: the cases of `worked_cases` show that copies
@@ -24,9 +22,7 @@ mod copies;
 mod counts;
 mod database;
 mod database_fits;
-mod first_form;
 mod fits;
-mod laws;
 mod naming;
 mod query;
 mod run;
@@ -36,7 +32,6 @@ mod scope;
 pub use certificate::{Cert, SameEdge, Step, SumEdge, TextEdge};
 pub use condition::{Block, Cond, Entry, Term};
 pub use database::{Binding, Counter, Database, KeyName, Points, Row, Truth, Value, Violation};
-pub use laws::first_form_is_tested;
 pub use query::{Item, Query, Question};
 pub use run::{Answer, CheckRun, Checked, QueryResult, QueryRun, Run};
 pub use schema::{Column, Domain, ForeignKey, Key, Kind, Schema, Table, Unit};

@@ -80,9 +80,11 @@ pub struct QueryRun {
     pub result: QueryResult,
 }
 
-/// The schema of a run and its queries, in the order of the file.
+/// The schema of a run, its queries, in the order of their file, and the certificates that it
+/// checked, in the order of theirs.
 #[derive(Drop)]
 pub struct Run {
     pub schema: Schema,
     pub queries: Items<QueryRun>,
+    pub checks: Items<CheckRun>,
 }

@@ -1,163 +1,140 @@
--- What the judge knows when it has read a query of the first form, and why each of its answers is right.
-use Rattle.std.proofs.Common.{◌≡◌, ◌∙◌, sym, ap, subst, ℕ, ◌+◌, ◌*◌, ◌^◌, ◌<◌, ◌≤◌, length, ℤ, pos, neg_ℤ, ◌+ℤ◌, ◌-ℤ◌, ◌≤ℤ◌, true, List, [], ◌∷◌, get_or, arith}
-use Rattle.std.proofs.lemmas.Int.{ints}
-use Rattle.std.proofs.lemmas.Bool.{and_parts}
-use Rattle.std.proofs.lemmas.List.{length-append}
-use Rattle.std.proofs.lemmas.List.Elements.{recursion_from_All}
-use Rattle.std.proofs.lemmas.Option.{get_or_from_slice_get}
-use Rattle.std.specs.Prelude.{Some, slice_get}
-use Rattle.std.specs.List.{AllByRecursion, list_all}
-use Rattle.lint_base.proofs.Lists.{every_append}
-use Rattle.lint_tables.specs.declared.op.Op.{Op}
-use Rattle.lint_tables.specs.declared.op.Op.TheVariants.{Eq, Ne, Lt, Le, Gt, Ge}
-use Rattle.lint_core.specs.declared.condition.Entry.{Entry}
+-- What is known of a problem within the limits, and of the steps and the database that come of it.
+use Rattle.std.proofs.Common.{◌≡◌, ◌∙◌, sym, ap, refl, subst, ℕ, suc, ◌<◌, ◌≤◌, true, false, List, [], ◌∷◌, length, map, get_or, arith}
+use Rattle.std.proofs.lemmas.List.{length-map}
+use Rattle.std.proofs.lemmas.List.Elements.{Contains-append_right}
+use Rattle.std.proofs.lemmas.Option.{same_Some, slice_get-map, slice_get-get_or, slice_get_within, get_or_from_slice_get}
+use Rattle.std.specs.Prelude.{Option, Some, slice_get, All}
+use Rattle.std.specs.List.{Contains}
+use Rattle.std.specs.Option.{option_map, option_map_or}
+use Rattle.lint_core.specs.declared.certificate.Step.{Step}
+use Rattle.lint_core.specs.declared.database.Value.{Value}
 use Rattle.lint_core.specs.declared.query.Query.{Query}
-use Rattle.lint_core.specs.declared.schema.Column.{Column}
-use Rattle.lint_core.specs.declared.schema.Unit.TheVariants.{Whole}
-use Rattle.lint_core.specs.declared.schema.Domain.{Domain}
-use Rattle.lint_core.specs.declared.schema.Domain.TheVariants.{Number, Text}
+use Rattle.lint_core.specs.declared.query.Question.{Question}
 use Rattle.lint_core.specs.declared.schema.Table.{Table}
-use Rattle.lint_core.specs.Schema.{is_schema, is_domain}
-use Rattle.lint_core.specs.FirstForm.{Conjunct, IsFirstForm}
-use Rattle.diff_bounds.specs.declared.system.Edge.{Edge}
-use Rattle.diff_bounds.specs.System.{IsAmong, IsModerate}
-use Rattle.lint_engine.specs.declared.comparison.Comparison.{Comparison}
-use Rattle.lint_engine.specs.declared.inequality.Inequality.{Inequality}
-use Rattle.lint_engine.specs.Plan.{comparisons_in, IsNumber, of_domain, of_domains, of_comparison, of_comparisons, parts_after, edges_of}
-use Rattle.lint_engine.proofs.Domains.{domain_numbers}
-use Rattle.lint_engine.proofs.Reading.{comparisons_of, reads_all}
+use Rattle.lint_core.specs.Database.{below}
+use Rattle.lint_core.proofs.Lists.{below_at}
+use Rattle.sort_formula.specs.declared.formula.Formula.{Formula}
+use Rattle.sort_formula.specs.Axioms.{Axiom, axioms}
+use Rattle.sort_formula.specs.Certificate.{accepts, are_closed, fact_of, first_branch}
+use Rattle.sort_formula.specs.Counters.{counter_sentence}
+use Rattle.sort_formula.specs.Facts.{Branch, Fact}
+use Rattle.sorted_skolem.specs.declared.term.RowTerm.{RowTerm}
+use Rattle.sorted_skolem.specs.Graph.{IsOrder}
+use Rattle.sorted_skolem.specs.Preorder.{outlines_of}
+use Rattle.ground_theory.specs.declared.literal.Clause.{Clause}
+use Rattle.ground_theory.specs.declared.literal.Frame.{Frame}
+use Rattle.case_split.specs.Answers.{HasSpent}
+use Rattle.instantiate.specs.declared.problem.Problem.{Problem}
+use Rattle.instantiate.specs.Ground.{clauses_of, frame_of}
+use Rattle.proof_cert.specs.Steps.{AreSteps}
+use Rattle.lint_engine.specs.Asking.{InOrder, IsWithinLimits, IsSpent}
+use Rattle.lint_engine.specs.JudgedBy.{sentences_for, rows_for, clauses_for, frame_for}
+use Rattle.lint_engine.specs.Limits.{HaveFewNodes, AreFew}
+use Rattle.lint_engine.specs.inner.Problems.{IsReady}
 
--- ---- what was read
+abbrev said_by : Axiom → Formula
+said_by a = a.sentence
 
-pub record IsRead (schema : List Table) (query : Query) (entry : Entry) (table : Table) (columns : List Column) (comparisons : List Comparison) : Type 0 where
-  pub known : is_schema schema ≡ true
-  pub one_entry : query.block.entries ≡ entry ∷ []
-  pub first_table : entry.table ≡ 0
-  pub of_table : slice_get schema entry.table ≡ Some table
-  pub columns_are : columns ≡ table.columns
-  pub conjuncts : List Conjunct
-  pub form : IsFirstForm schema query table conjuncts
-  pub comparisons_are : comparisons ≡ comparisons_of conjuncts
-  pub columns_exist : AllByRecursion (λ (c : Conjunct). c.column < length table.columns) conjuncts
+-- ---- what the problem is made of
 
-pub is_read : (schema tables : List Table) (query : Query) (entries : List Entry) (entry : Entry) (table : Table) (columns : List Column) (comparisons : List Comparison) →
-    ((t : Table) × (conjuncts : List Conjunct) × IsFirstForm schema query t conjuncts) → is_schema schema ≡ true → tables ≡ schema → entries ≡ query.block.entries →
-    entry ≡ get_or entries 0 entry → table ≡ get_or tables (get_or entries 0 entry).table table → columns ≡ (get_or tables (get_or entries 0 entry).table table).columns → comparisons ≡ comparisons_in query.block.cond → IsRead schema query entry table columns comparisons
-is_read schema tables query entries entry table columns comparisons form known tables_are entries_are entry_is table_is columns_are comparisons_are =
-    let first = form.2.one_entry in
-    let entry_same : entry ≡ first.0 = entry_is ∙ (ap (λ (es : List Entry). get_or es 0 entry) (entries_are ∙ first.1)) in
-    let zero_is : entry.table ≡ 0 = ap (λ (e : Entry). e.table) entry_same ∙ first.2 in
-    let of_form : slice_get schema entry.table ≡ Some form.0 = ap (slice_get schema) zero_is ∙ ap (λ (ts : List Table). slice_get ts 0) form.2.one_table in
-    let table_same : table ≡ form.0 = table_is ∙ (ap (λ (e : Entry). get_or tables e.table table) (sym entry_is) ∙ (ap (λ (ts : List Table). get_or ts entry.table table) tables_are ∙ get_or_from_slice_get schema entry.table form.0 table of_form)) in
-    record {
-      known = known;
-      one_entry = first.1 ∙ ap (λ (e : Entry). e ∷ []) (sym entry_same);
-      first_table = zero_is;
-      of_table = of_form ∙ ap (λ (t : Table). Some t) (sym table_same);
-      columns_are = columns_are ∙ ap (λ (t : Table). t.columns) (sym table_is);
-      conjuncts = form.1;
-      form = subst (λ (t : Table). IsFirstForm schema query t form.1) (sym table_same) form.2;
-      comparisons_are = comparisons_are ∙ (ap comparisons_in form.2.filter ∙ reads_all form.1);
-      columns_exist = subst (λ (t : Table). AllByRecursion (λ (c : Conjunct). c.column < length t.columns) form.1) (sym table_same) (recursion_from_All (λ (c : Conjunct). c.column < length form.0.columns) form.1 form.2.columns_exist);
-    }
+module _ (schema : List Table) (ss : List Formula) (problem : Problem) (ready : IsReady schema ss problem) where
+  abbrev order : List ℕ
+  order = problem.order.tables
 
--- ---- the edges
+  order_is : IsOrder ss order
+  order_is = subst (λ (xs : List Formula). IsOrder xs order) ready.sentences_are ready.grounded.problem_is.order
 
-abbrev pub EdgeIsAmong : ℕ → Inequality → Type 0
-EdgeIsAmong variables i = IsAmong variables i.edge
+  rows_are : problem.rows.terms ≡ rows_for ss order
+  rows_are = ready.grounded.problem_is.terms ∙ ap (λ (xs : List Formula). rows_for xs order) ready.sentences_are
 
-abbrev pub EdgeIsModerate : Inequality → Type 0
-EdgeIsModerate i = IsModerate i.edge
+  clauses_are : problem.clauses ≡ clauses_for ss order
+  clauses_are =
+      ready.grounded.problem_is.clauses
+      ∙ (ap (λ (ts : List RowTerm). clauses_of (outlines_of problem.sentences) order ts) rows_are
+      ∙ ap (λ (xs : List Formula). clauses_of (outlines_of xs) order (rows_for ss order)) ready.sentences_are)
 
-pub edges_all : (P : Edge → Type 0) (is : List Inequality) → AllByRecursion (λ (i : Inequality). P i.edge) is → AllByRecursion P (edges_of is)
-edges_all P [] all = tt
-edges_all P (i ∷ is) all = (all.0, edges_all P is all.1)
+  frame_is : problem.frame ≡ frame_for schema ss order
+  frame_is = ready.grounded.problem_is.frame ∙ ap (frame_of schema) rows_are
 
-pub edges_back : (P : Edge → Type 0) (is : List Inequality) → AllByRecursion P (edges_of is) → AllByRecursion (λ (i : Inequality). P i.edge) is
-edges_back P [] all = tt
-edges_back P (i ∷ is) all = (all.0, edges_back P is all.1)
+  are_few : AreFew ss order
+  are_few = record {
+    nodes = subst HaveFewNodes ready.sentences_are ready.grounded.few_nodes;
+    rows = subst (λ (ts : List RowTerm). length ts ≤ 512) rows_are ready.grounded.few_rows;
+    clauses = subst (λ (cs : List Clause). length cs ≤ 400000) clauses_are ready.few_clauses;
+  }
 
-at_most_among : (variables column : ℕ) (most : ℤ) → column + 1 < variables → IsAmong variables (record { left = column + 1; right = 0; most = most })
-at_most_among variables column most within = record { left = within; right = omega arith }
+-- ---- what is answered of a question
 
-at_least_among : (variables column : ℕ) (most : ℤ) → column + 1 < variables → IsAmong variables (record { left = 0; right = column + 1; most = most })
-at_least_among variables column most within = record { left = omega arith; right = within }
+module _ (schema : List Table) (query : Query) (question : Question) (given : Value) (problem : Problem) (ready : IsReady schema (sentences_for schema query question given) problem) where
+  abbrev ss : List Formula
+  ss = sentences_for schema query question given
 
-domain_among : (variables column : ℕ) (d : Domain) → column + 1 < variables → AllByRecursion (EdgeIsAmong variables) (of_domain column d)
-domain_among variables column (Number least greatest unit) within = (at_least_among variables column (neg_ℤ least) within, (at_most_among variables column greatest within, tt))
-domain_among variables column (Text length) within = tt
+  pub limits : InOrder schema query question given (IsWithinLimits schema query question given)
+  limits = record {
+    acyclic = ready.acyclic;
+    order = problem.order.tables;
+    is_order = order_is schema ss problem ready;
+    so = are_few schema ss problem ready;
+  }
 
-pub domains_among : (variables column : ℕ) (cs : List Column) → column + length cs + 1 ≤ variables → AllByRecursion (EdgeIsAmong variables) (of_domains column cs)
-domains_among variables column [] within = tt
-domains_among variables column (c ∷ cs) within =
-    every_append (EdgeIsAmong variables) (of_domain column c.domain) (of_domains (column + 1) cs)
-    (domain_among variables column c.domain (omega arith)) (domains_among variables (column + 1) cs (omega arith))
+  pub spent : (budget tried : ℕ) → HasSpent problem.clauses problem.frame budget tried → InOrder schema query question given (IsSpent schema query question given budget tried)
+  spent budget tried is = record {
+    acyclic = ready.acyclic;
+    order = problem.order.tables;
+    is_order = order_is schema ss problem ready;
+    so = record {
+      within = are_few schema ss problem ready;
+      spent =
+          subst (λ (frame : Frame). HasSpent (clauses_for ss problem.order.tables) frame budget tried) (frame_is schema ss problem ready)
+          (subst (λ (cs : List Clause). HasSpent cs problem.frame budget tried) (clauses_are schema ss problem ready) is);
+    };
+  }
 
-comparison_among : (op : Op) (variables fact parts column : ℕ) (literal : ℤ) → column + 1 < variables → AllByRecursion (EdgeIsAmong variables) (of_comparison fact parts column literal op)
-comparison_among Eq variables fact parts column literal within = (at_most_among variables column literal within, (at_least_among variables column (neg_ℤ literal) within, tt))
-comparison_among Ne variables fact parts column literal within = tt
-comparison_among Lt variables fact parts column literal within = (at_most_among variables column (literal -ℤ pos 1) within, tt)
-comparison_among Le variables fact parts column literal within = (at_most_among variables column literal within, tt)
-comparison_among Gt variables fact parts column literal within = (at_least_among variables column (neg_ℤ (literal +ℤ pos 1)) within, tt)
-comparison_among Ge variables fact parts column literal within = (at_least_among variables column (neg_ℤ literal) within, tt)
+  pub counter_first : slice_get problem.sentences 0 ≡ Some (counter_sentence schema query question given)
+  counter_first = ap (λ (xs : List Formula). slice_get xs 0) ready.sentences_are
 
-pub comparisons_among_all : (n fact parts : ℕ) (cs : List Conjunct) → AllByRecursion (λ (c : Conjunct). c.column < n) cs → AllByRecursion (EdgeIsAmong (n + 1)) (of_comparisons fact parts (comparisons_of cs))
-comparisons_among_all n fact parts [] exist = tt
-comparisons_among_all n fact parts (c ∷ cs) exist =
-    every_append (EdgeIsAmong (n + 1)) (of_comparison fact parts c.column c.literal c.op) (of_comparisons (fact + 1) (parts_after parts c.op) (comparisons_of cs))
-    (let within : c.column + 1 < n + 1 = omega (arith, exist.0) in comparison_among c.op (n + 1) fact parts c.column c.literal within)
-    (comparisons_among_all n (fact + 1) (parts_after parts c.op) cs exist.1)
+  -- each axiom is among the sentences
+  pub axioms_there : All (λ (x : Axiom). Contains problem.sentences x.sentence) (axioms schema)
+  axioms_there i d low =
+      let xs = axioms schema in
+      let x : Axiom = get_or xs i d in
+      let at : slice_get (map said_by xs) i ≡ Some x.sentence = slice_get-map said_by xs i ∙ ap (option_map said_by) (slice_get-get_or xs i d low) in
+      let among : Contains (map said_by xs) x.sentence = (i, slice_get_within (map said_by xs) i x.sentence at, get_or_from_slice_get (map said_by xs) i x.sentence x.sentence at) in
+      subst (λ (ys : List Formula). Contains ys x.sentence) (sym ready.sentences_are)
+      (Contains-append_right (counter_sentence schema query question given ∷ []) (map said_by xs) x.sentence among)
 
-moderate : (l r : ℕ) (most : ℤ) → (neg_ℤ (pos (2 ^ 64))) ≤ℤ most → most ≤ℤ pos (2 ^ 64) → IsModerate (record { left = l; right = r; most = most })
-moderate l r most low high = record { low = omega (arith, ints); high = omega (arith, ints) }
+  -- ---- the facts of a certificate
 
-domain_moderate : (column : ℕ) (d : Domain) → is_domain d ≡ true → AllByRecursion EdgeIsModerate (of_domain column d)
-domain_moderate column (Text length) known = tt
-domain_moderate column (Number least greatest Whole) known =
-    let both = domain_numbers least greatest known in
-    let a : IsNumber least = both.0 in
-    let b : IsNumber greatest = both.1 in
-    (moderate 0 (column + 1) (neg_ℤ least) (omega (arith, ints)) (omega (arith, ints)), (moderate (column + 1) 0 greatest (omega (arith, ints)) (omega (arith, ints)), tt))
+  abbrev facts : List Fact
+  facts = (first_branch schema (counter_sentence schema query question given)).facts
 
-pub domains_moderate : (column : ℕ) (cs : List Column) → list_all (λ (c : Column). is_domain c.domain) cs ≡ true → AllByRecursion EdgeIsModerate (of_domains column cs)
-domains_moderate column [] known = tt
-domains_moderate column (c ∷ cs) known =
-    let both = and_parts (is_domain c.domain) (list_all (λ (c : Column). is_domain c.domain) cs) known in
-    every_append EdgeIsModerate (of_domain column c.domain) (of_domains (column + 1) cs) (domain_moderate column c.domain both.0) (domains_moderate (column + 1) cs both.1)
+  facts_are : facts ≡ map (fact_of []) ss
+  facts_are = ap (λ (fs : List Fact). fact_of [] (counter_sentence schema query question given) ∷ fs) (twice (axioms schema))
+    where
+      twice : (xs : List Axiom) → map (λ (a : Axiom). fact_of [] a.sentence) xs ≡ map (fact_of []) (map (λ (a : Axiom). a.sentence) xs)
+      twice [] = refl
+      twice (x ∷ xs) = ap (λ (fs : List Fact). fact_of [] x.sentence ∷ fs) (twice xs)
 
-comparison_moderate : (op : Op) (fact parts column : ℕ) (literal : ℤ) → IsNumber literal → AllByRecursion EdgeIsModerate (of_comparison fact parts column literal op)
-comparison_moderate Eq fact parts column literal number =
-    (moderate (column + 1) 0 literal (omega (arith, ints)) (omega (arith, ints)), (moderate 0 (column + 1) (neg_ℤ literal) (omega (arith, ints)) (omega (arith, ints)), tt))
-comparison_moderate Ne fact parts column literal number = tt
-comparison_moderate Lt fact parts column literal number = (moderate (column + 1) 0 (literal -ℤ pos 1) (omega (arith, ints)) (omega (arith, ints)), tt)
-comparison_moderate Le fact parts column literal number = (moderate (column + 1) 0 literal (omega (arith, ints)) (omega (arith, ints)), tt)
-comparison_moderate Gt fact parts column literal number = (moderate 0 (column + 1) (neg_ℤ (literal +ℤ pos 1)) (omega (arith, ints)) (omega (arith, ints)), tt)
-comparison_moderate Ge fact parts column literal number = (moderate 0 (column + 1) (neg_ℤ literal) (omega (arith, ints)) (omega (arith, ints)), tt)
+  fact_at : (sentence number : ℕ) (formula : Formula) → slice_get problem.sentences sentence ≡ Some formula → slice_get problem.numbers sentence ≡ Some number →
+      slice_get facts number ≡ Some (fact_of [] formula)
+  fact_at sentence number formula here numbered =
+      let stands : slice_get ss sentence ≡ Some formula = ap (λ (xs : List Formula). slice_get xs sentence) (sym ready.sentences_are) ∙ here in
+      let low : sentence < length ss = slice_get_within ss sentence formula stands in
+      let same : sentence ≡ number =
+      same_Some sentence number (sym (below_at (suc (length ss)) sentence (omega arith)) ∙ (ap (λ (ns : List ℕ). slice_get ns sentence) (sym ready.numbers_are) ∙ numbered)) in
+      ap (λ (fs : List Fact). slice_get fs number) facts_are
+      ∙ (slice_get-map (fact_of []) ss number
+      ∙ ap (option_map (fact_of [])) (ap (slice_get ss) (sym same) ∙ stands))
 
-pub comparisons_moderate : (fact parts : ℕ) (cs : List Comparison) → AllByRecursion (λ (c : Comparison). IsNumber c.literal) cs → AllByRecursion EdgeIsModerate (of_comparisons fact parts cs)
-comparisons_moderate fact parts [] numbers = tt
-comparisons_moderate fact parts (c ∷ cs) numbers =
-    every_append EdgeIsModerate (of_comparison fact parts c.column c.literal c.op) (of_comparisons (fact + 1) (parts_after parts c.op) cs)
-    (comparison_moderate c.op fact parts c.column c.literal numbers.0) (comparisons_moderate (fact + 1) (parts_after parts c.op) cs numbers.1)
+  last_is : slice_get problem.numbers (length problem.sentences) ≡ Some (length facts)
+  last_is =
+      let many : length problem.sentences ≡ length ss = ap length ready.sentences_are in
+      let so_many : length facts ≡ length ss = ap length facts_are ∙ length-map ss (fact_of []) in
+      ap (λ (ns : List ℕ). slice_get ns (length problem.sentences)) ready.numbers_are
+      ∙ (ap (slice_get (below (suc (length ss)))) many
+      ∙ (below_at (suc (length ss)) (length ss) (omega arith) ∙ ap Some (sym so_many)))
 
-domain_few : (column : ℕ) (d : Domain) → length (of_domain column d) ≤ 2
-domain_few column (Number least greatest unit) = omega arith
-domain_few column (Text length) = omega arith
-
-pub domains_few : (column : ℕ) (cs : List Column) → length (of_domains column cs) ≤ 2 * length cs
-domains_few column [] = omega arith
-domains_few column (c ∷ cs) =
-    omega (arith, length-append (of_domain column c.domain) (of_domains (column + 1) cs), domain_few column c.domain, domains_few (column + 1) cs)
-
-comparison_few : (op : Op) (fact parts column : ℕ) (literal : ℤ) → length (of_comparison fact parts column literal op) ≤ 2
-comparison_few Eq fact parts column literal = omega arith
-comparison_few Ne fact parts column literal = omega arith
-comparison_few Lt fact parts column literal = omega arith
-comparison_few Le fact parts column literal = omega arith
-comparison_few Gt fact parts column literal = omega arith
-comparison_few Ge fact parts column literal = omega arith
-
-pub comparisons_few : (fact parts : ℕ) (cs : List Comparison) → length (of_comparisons fact parts cs) ≤ 2 * length cs
-comparisons_few fact parts [] = omega arith
-comparisons_few fact parts (c ∷ cs) =
-    omega (arith, length-append (of_comparison fact parts c.column c.literal c.op) (of_comparisons (fact + 1) (parts_after parts c.op) cs), comparison_few c.op fact parts c.column c.literal, comparisons_few (fact + 1) (parts_after parts c.op) cs)
+  pub accepted : (steps : List Step) → AreSteps problem steps → accepts schema (counter_sentence schema query question given) steps ≡ true
+  accepted steps close =
+      ap (λ (o : Option (List Branch)). option_map_or are_closed o false)
+      (close schema (sym (ap (λ (frame : Frame). frame.domains) ready.grounded.problem_is.frame)) facts (record { sentences = fact_at; as_many = last_is }))

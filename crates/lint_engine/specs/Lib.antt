@@ -1,2 +1,6 @@
-pub mod Plan
-pub mod Answer
+pub mod JudgedBy
+pub mod Limits
+pub mod Asking
+pub mod Earlier
+pub mod AskingAll
+pub mod inner

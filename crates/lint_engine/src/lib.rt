@@ -1,20 +1,35 @@
-//! The judge: what holds of every query of the first form, with a certificate, and what does not,
-//! with a database that shows it.
+//! The engine: what is answered of the questions of a query, with a certificate of what holds
+//! always, and with a database where it does not.
 //!
-//! The layer above may use `judge_empty`. The law `certified_question_holds` says of every query
-//! that fits what an accepted certificate of E1 shows. Of `specs/` a reader must believe `Answer`:
-//! when an answer of the judge is right. `Plan` says what the functions build, and need not be
-//! believed. A body that always answers `NoMemory` would meet the judge's contract too, since no
-//! contract can say how much memory is left: the cases of `worked_cases` show that there are
-//! answers.
+//! `ask` judges one question, over the databases in which the scalar subqueries asked of before
+//! give at most one row: it makes the counter sentence and the axioms (`sentences`), their order,
+//! row terms and ground list (`problem`), and searches its cases (`asking`). A closed tree gives
+//! the certificate, the first full case the database. `ask_all` judges all questions of a query in
+//! their order (`asking_all`): a question is blocked or moot exactly where the answers before it
+//! say so (`earlier`), a constant column is asked of with its value in E1's database (`values`).
+//!
+//! The layer above may use `ask` and `ask_all`, and cite the laws. Of `specs/` a reader must
+//! believe `JudgedBy` (which sentences, rows and clauses a question is judged by), `Limits` (how
+//! much is judged), `Asking` (which answers to one question are right), `Earlier` (what earlier
+//! answers decide of a later question) and `AskingAll` (which answers to all questions are right).
+//! `specs/inner` is cited by private clauses alone.
+//!
+//! Of wrong bodies the contracts let through only those that answer `NoMemory` though there is
+//! memory, since no clause can say when memory ends.
 #![tactic(auto)]
 
-mod certificate;
-mod comparison;
-mod counter;
-mod empty;
-mod inequality;
+mod asking;
+mod asking_all;
+mod earlier;
 mod laws;
+mod problem;
+mod sentences;
+mod values;
 
-pub use empty::judge_empty;
-pub use laws::certified_question_holds;
+pub use asking::ask;
+pub use asking_all::ask_all;
+pub use laws::{
+    accepted_questions_hold, causes_are_exact, constant_columns_have_a_value,
+    databases_of_the_schema_fit, earlier_questions_hold, loose_points_refute, right_answers_go_on,
+    worked_earlier_answers,
+};

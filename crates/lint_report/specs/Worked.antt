@@ -49,12 +49,13 @@ two_queries schema query =
       queries = record { span = from_to 0 20; result = Refused (record { fault = UnknownColumn; span = from_to 7 11; count = 0 }) }
           ∷ record { span = from_to 22 57; result = Answered query [] [] }
           ∷ [];
+      checks = [];
     }
 
 -- the one query of a run, answered
 abbrev pub answered : List Table → Query → Answer → Run
 answered schema query answer =
-    record { schema = schema; queries = record { span = query.block.span; result = Answered query (Empty ∷ []) (answer ∷ []) } ∷ [] }
+    record { schema = schema; queries = record { span = query.block.span; result = Answered query (Empty ∷ []) (answer ∷ []) } ∷ []; checks = [] }
 
 -- a > 5 AND a < 6
 abbrev pub contradiction : Cert
@@ -112,7 +113,7 @@ RefusedText =
 abbrev pub LongText : Type 0
 LongText =
     (schema : List Table)
-    → report_text (record { schema = schema; queries = record { span = from_to 3 9000; result = Refused (record { fault = Long; span = from_to 8998 8999; count = 4097 }) } ∷ [] })
+    → report_text (record { schema = schema; queries = record { span = from_to 3 9000; result = Refused (record { fault = Long; span = from_to 8998 8999; count = 4097 }) } ∷ []; checks = [] })
     ≡ codes "query 1 at 3..9000\n  refused 11 Long at 8998..8999 count 4097\n"
 
 abbrev pub StepsText : Type 0

@@ -11,7 +11,8 @@
 //! private functions alone.
 //!
 //! Of wrong bodies the contracts let through those that answer `NoMemory` though there is memory,
-//! since no clause can say when memory ends: the runs of `worked_cases` show that there are texts.
+//! since no clause can say when memory ends: the runs of `worked_runs` show that there are texts, but
+//! of `query_text`, which no run calls.
 #![tactic(auto)]
 
 mod answers;

@@ -1,53 +1,67 @@
 -- Entries, one after another, and how many pieces a text has.
 use Rattle.std.proofs.Common.{◌≡◌, refl, ℕ, suc, ◌+◌, ◌≤◌, ◌++◌, List, [], ◌∷◌, length, map, true, false, ◌&&◌, nat_eq, if◌then◌else◌, Result, Ok, Err, IfOk, sym, ap, ◌∙◌, subst, length-append, append_assoc, arith}
 use Rattle.std.proofs.lemmas.List.{map-append, length-map}
+use Rattle.std.proofs.lemmas.List.Elements.{All-cons, All-nil}
+use Rattle.cert_checks.specs.Named.{IsRead, AreRead}
+use Rattle.command_words.specs.Wanted.{Asked}
 use Rattle.lint_base.specs.declared.place.Span.{Span}
-use Rattle.lint_core.specs.declared.schema.Table.{Table}
 use Rattle.lint_base.specs.declared.place.NoMemory.{NoMemory}
+use Rattle.lint_core.specs.declared.schema.Table.{Table}
 use Rattle.lint_core.specs.declared.query.Query.{Query}
 use Rattle.lint_core.specs.declared.query.Question.{Question}
-use Rattle.lint_core.specs.declared.query.Question.TheVariants.{Empty}
 use Rattle.lint_core.specs.declared.run.Answer.{Answer}
 use Rattle.lint_core.specs.declared.run.QueryResult.{QueryResult}
 use Rattle.lint_core.specs.declared.run.QueryResult.TheVariants.{Refused, Answered}
 use Rattle.lint_core.specs.declared.run.QueryRun.{QueryRun}
-use Rattle.lint_engine.specs.Answer.{IsRightAnswer}
-use Rattle.lint_core.specs.FirstForm.{is_first_form}
+use Rattle.lint_core.specs.Asked.{questions as questions_of}
+use Rattle.lint_core.specs.Fits.{query_fits}
 use Rattle.sql_lex.specs.Bytes.{is_quote}
 use Rattle.sql_lex.specs.Classes.{Class, Blank, Solid, Separator, Inside, Nothing, Comment, Quote, classes, begins_with_dash, blank_or_solid}
 use Rattle.sql_lex.specs.Pieces.{Part, parts_from, solid_places, spanned, spans_of, pieces}
 use Rattle.lint_run.specs.inner.Judging.{IsAnsweredRun}
-use Rattle.lint_run.specs.RightRun.{judged, IsRightResult, AreRightFrom}
+use Rattle.lint_run.specs.RightRun.{AreAnswers, IsRightResult, AreRightFrom}
 use Rattle.sql_reading.specs.TextReading.{ReadsQuery}
 
 abbrev pub span_of : QueryRun → Span
 span_of run = run.span
 
--- one entry more
-pub right_more : (schema : List Table) (number : ℕ) (text : List ℕ) (runs : List QueryRun) (run : QueryRun) →
-    AreRightFrom schema number text runs → IsRightResult schema (number + length runs) text run run.result →
-    AreRightFrom schema number text (runs ++ run ∷ [])
-right_more schema number text [] run right last =
-    let e : number + 0 ≡ number = omega arith in
-    (subst (λ n. IsRightResult schema n text run run.result) e last, tt)
-right_more schema number text (first ∷ runs) run right last =
-    let e : number + suc (length runs) ≡ number + 1 + length runs = omega arith in
-    (right.0, right_more schema (number + 1) text runs run right.1 (subst (λ n. IsRightResult schema n text run run.result) e last))
+module _ (asked : Asked) (schema : List Table) where
+  -- one entry more
+  pub right_more : (number : ℕ) (text : List ℕ) (runs : List QueryRun) (run : QueryRun) →
+      AreRightFrom asked schema number text runs → IsRightResult asked schema (number + length runs) text run run.result →
+      AreRightFrom asked schema number text (runs ++ run ∷ [])
+  right_more number text [] run right last =
+      let e : number + 0 ≡ number = omega arith in
+      (subst (λ n. IsRightResult asked schema n text run run.result) e last, tt)
+  right_more number text (first ∷ runs) run right last =
+      let e : number + suc (length runs) ≡ number + 1 + length runs = omega arith in
+      (right.0, right_more (number + 1) text runs run right.1 (subst (λ n. IsRightResult asked schema n text run run.result) e last))
 
--- what is answered of a query that is judged
-pub judged_run : (schema : List Table) (number : ℕ) (query : Query) (questions : List Question) (answers : List Answer) (answer : Answer) →
-    is_first_form schema query ≡ true → questions ≡ Empty ∷ [] → answers ≡ answer ∷ [] → IsRightAnswer schema query number 1 answer →
-    IsAnsweredRun schema number query (Answered query questions answers)
-judged_run schema number query questions answers answer first asked told right = (refl, judged answer first asked told right)
+  -- what is answered of a query
+  pub answered_run : (number : ℕ) (query : Query) (list : List Question) (answers : List Answer) →
+      query_fits schema query ≡ true → list ≡ questions_of schema query → AreAnswers asked schema number query answers →
+      IsAnsweredRun asked schema number query (Answered query list answers)
+  answered_run number query list answers fits listed right = (refl, record { fits = fits; questions_are = listed; answers_are = right })
 
--- a query that is read, and what is answered of it
-pub read_run : (schema : List Table) (number : ℕ) (text : List ℕ) (piece : Span) (query : Query) (answered : Result QueryResult NoMemory) →
-    ReadsQuery schema text piece query → IfOk answered (λ r. IsAnsweredRun schema number query r) →
-    IfOk answered (λ r. IsRightResult schema number text (record { span = piece; result = r }) r)
-read_run schema number text piece query (Err none) read right = tt
-read_run schema number text piece query (Ok (Refused refusal)) read right = absurd right
-read_run schema number text piece query (Ok (Answered asked questions answers)) read right =
-    (subst (λ q. ReadsQuery schema text piece q) (sym right.0) read, right.1)
+  -- a query that is read, and what is answered of it
+  pub read_run : (number : ℕ) (text : List ℕ) (piece : Span) (query : Query) (answered : Result QueryResult NoMemory) →
+      ReadsQuery schema text piece query → IfOk answered (λ r. IsAnsweredRun asked schema number query r) →
+      IfOk answered (λ r. IsRightResult asked schema number text (record { span = piece; result = r }) r)
+  read_run number text piece query (Err none) read right = tt
+  read_run number text piece query (Ok (Refused refusal)) read right = absurd right
+  read_run number text piece query (Ok (Answered own list answers)) read right =
+      (subst (λ q. ReadsQuery schema text piece q) (sym right.0) read, right.1)
+
+  -- right entries are read
+  is_read : (number : ℕ) (text : List ℕ) (run : QueryRun) (span : Span) (result : QueryResult) →
+      IsRightResult asked schema number text run result → IsRead schema (record { span = span; result = result })
+  is_read number text run span (Refused refusal) right = tt
+  is_read number text run span (Answered query list answers) right = (right.1.fits, right.1.questions_are)
+
+  pub are_read : (number : ℕ) (text : List ℕ) (runs : List QueryRun) → AreRightFrom asked schema number text runs → AreRead schema runs
+  are_read number text [] right = All-nil (IsRead schema)
+  are_read number text (run ∷ runs) right =
+      All-cons (IsRead schema) run runs (is_read number text run run.span run.result right.0) (are_read (number + 1) text runs right.1)
 
 -- the span of one entry more
 pub spans_more : (runs : List QueryRun) (run : QueryRun) (piece : Span) (left rest all : List Span) → map span_of runs ++ left ≡ all → left ≡ piece ∷ rest → run.span ≡ piece →

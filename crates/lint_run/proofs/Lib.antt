@@ -1,2 +1,4 @@
 pub mod Entries
-pub mod PrintedAlways
+pub mod Keeping
+pub mod Numbered
+pub mod Whole

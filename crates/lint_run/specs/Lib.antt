@@ -1,8 +1,8 @@
-pub mod Words
 pub mod Text
 pub mod Worked
 pub mod RightRun
-pub mod PrintedAlways
+pub mod KeepsItsWord
+pub mod ReadBack
 pub mod Stops
 pub mod Status
 pub mod Written

@@ -1,18 +1,30 @@
 -- When each stop comes, told by the words, by what the shelf tells before and after, and by the files,
 -- where the shelf tells them.
 use Rattle.std.specs.Prelude.{ℕ, Bool, true, false, ◌<◌, ◌≤◌, ◌≡◌, ◌⊎◌, List, [], Option, Some, None, IfSome, length}
+use Rattle.cert_checks.specs.Checks.{checks_of}
+use Rattle.cert_format.specs.CertFile.{ReadsAs, Refuses}
+use Rattle.cert_format.specs.declared.fault.CertFault.{CertFault}
+use Rattle.cert_format.specs.declared.fault.CertFault.TheVariants as cert_fault
+use Rattle.command_words.specs.Wanted.{Asked, judges, checks, Wanted}
 use Rattle.lint_base.specs.Counts.{Rose}
 use Rattle.lint_base.specs.Shelf.{file_at}
 use Rattle.lint_base.specs.declared.place.Refusal.{Refusal}
+use Rattle.lint_core.specs.declared.certificate.Cert.{Cert}
 use Rattle.lint_core.specs.declared.schema.Table.{Table}
 use Rattle.lint_core.specs.declared.run.QueryRun.{QueryRun}
 use Rattle.lint_core.specs.declared.run.Run.{Run}
 use Rattle.lint_run.specs.RightRun.{AreRightQueries}
 use Rattle.sql_reading.specs.TextReading.{ReadsSchema, RefusesSchema}
-use Rattle.lint_run.specs.Words.{Paths}
 use Rattle.lint_run.specs.declared.outcome.Which.TheVariants as which
 use Rattle.lint_run.specs.declared.outcome.Stop.{Stop}
 use Rattle.lint_run.specs.declared.outcome.Stop.TheVariants as stop
+
+-- the most bytes of a file of schema or queries, and of a file of certificates
+abbrev pub text_limit : ℕ
+text_limit = 1048576
+
+abbrev pub certs_limit : ℕ
+certs_limit = 16777216
 
 -- what a shelf tells at a moment: its counts of faults, the paths of the last open that failed and of the
 -- last that succeeded, and how many bytes were given since that one
@@ -48,124 +60,166 @@ pub record IsOpenFault (path : List ℕ) (before now : Told) : Type 0 where
   pub opened : now.opened_path ≡ before.opened_path
   pub given : now.given ≡ before.given
 
--- the path was opened, and then a read failed, before more than the limit was given
-pub record IsReadFault (path : List ℕ) (before now : Told) : Type 0 where
-  pub rose : Rose before.read_faults now.read_faults
-  pub opened : now.opened_path ≡ Some path
-  pub opens : now.open_faults ≡ before.open_faults
-  pub failed : now.failed_path ≡ before.failed_path
-  pub short : now.given ≤ 1048576
+-- a run that holds no query and no line of a check
+pub record HoldsNothing (run : Run) : Type 0 where
+  pub queries : run.queries ≡ []
+  pub checks : run.checks ≡ []
 
--- the path was opened, no call failed, and no more than the limit was given
-pub record IsOpened (path : List ℕ) (before now : Told) : Type 0 where
-  pub no_fault : NoFault before now
-  pub opened : now.opened_path ≡ Some path
-  pub short : now.given ≤ 1048576
+-- and no schema yet
+pub record IsUnbegun (run : Run) : Type 0 where
+  pub schema : run.schema ≡ []
+  pub nothing : HoldsNothing run
 
--- a run that has no schema yet, and no query
-abbrev pub IsUnbegun : Run → Type 0
-IsUnbegun run = (run.schema ≡ []) × (run.queries ≡ [])
+module _ (limit : ℕ) (path : List ℕ) (before now : Told) where
+  -- the path was opened, and then a read failed, before more than the limit was given
+  pub record IsReadFault : Type 0 where
+    pub rose : Rose before.read_faults now.read_faults
+    pub opened : now.opened_path ≡ Some path
+    pub opens : now.open_faults ≡ before.open_faults
+    pub failed : now.failed_path ≡ before.failed_path
+    pub short : now.given ≤ limit
 
-module _ (files : Option (List ℕ → Option (List ℕ))) where
-  -- this text was read from the path to its end: as many bytes as were given, and where the files are told,
-  -- what the path holds
-  pub record IsReadWhole (path text : List ℕ) (before now : Told) : Type 0 where
-    pub opened : IsOpened path before now
-    pub given : length text ≡ now.given
-    pub holds : IfSome files (λ held. held path ≡ Some text)
-
-  -- the shelf gave more bytes of the path than the limit of 1,048,576
-  pub record IsTooLong (path : List ℕ) (before now : Told) : Type 0 where
+  -- the path was opened, no call failed, and no more than the limit was given
+  pub record IsOpened : Type 0 where
     pub no_fault : NoFault before now
     pub opened : now.opened_path ≡ Some path
-    pub gave : 1048576 < now.given
-    pub holds : IfSome (file_at files path) (λ file. 1048576 < length file)
+    pub short : now.given ≤ limit
 
-  -- the file at the path declares the schema
-  pub record IsSchemaRead (path : List ℕ) (before now : Told) (schema : List Table) : Type 0 where
-    pub text : List ℕ
-    pub whole : IsReadWhole path text before now
-    pub declares : ReadsSchema text schema
+module _ (files : Option (List ℕ → Option (List ℕ))) where
+  module _ (limit : ℕ) (path : List ℕ) (before now : Told) where
+    -- this text was read from the path to its end: as many bytes as were given, and where the files are told,
+    -- what the path holds
+    pub record IsReadWhole (text : List ℕ) : Type 0 where
+      pub opened : IsOpened limit path before now
+      pub given : length text ≡ now.given
+      pub holds : IfSome files (λ held. held path ≡ Some text)
 
-  -- the file at the path declares no schema
-  pub record IsSchemaRefused (path : List ℕ) (before now : Told) (refusal : Refusal) : Type 0 where
-    pub text : List ℕ
-    pub whole : IsReadWhole path text before now
-    pub refused : RefusesSchema text refusal
+    -- the shelf gave more bytes of the path than the limit
+    pub record IsTooLong : Type 0 where
+      pub no_fault : NoFault before now
+      pub opened : now.opened_path ≡ Some path
+      pub gave : limit < now.given
+      pub holds : IfSome (file_at files path) (λ file. limit < length file)
 
-  -- the runs are right for the queries of the file at the path
-  pub record AreQueriesRead (path : List ℕ) (before now : Told) (schema : List Table) (queries : List QueryRun) : Type 0 where
-    pub text : List ℕ
-    pub whole : IsReadWhole path text before now
-    pub right : AreRightQueries schema text queries
+  module _ (path : List ℕ) (before now : Told) where
+    -- the file at the path declares the schema
+    pub record IsSchemaRead (schema : List Table) : Type 0 where
+      pub text : List ℕ
+      pub whole : IsReadWhole text_limit path before now text
+      pub declares : ReadsSchema text schema
 
-  -- why the schema at this path was not read
-  abbrev pub StopsAtSchema : List ℕ → Told → Told → Stop → Type 0
-  StopsAtSchema path before now stop.WordsRefused = ⊥
-  StopsAtSchema path before now (stop.OpenFault which.Schema) = IsOpenFault path before now
-  StopsAtSchema path before now (stop.OpenFault which.Queries) = ⊥
-  StopsAtSchema path before now (stop.ReadFault which.Schema) = IsReadFault path before now
-  StopsAtSchema path before now (stop.ReadFault which.Queries) = ⊥
-  StopsAtSchema path before now (stop.TooLong which.Schema) = IsTooLong path before now
-  StopsAtSchema path before now (stop.TooLong which.Queries) = ⊥
-  StopsAtSchema path before now (stop.SchemaRefused refusal) = IsSchemaRefused path before now refusal
-  StopsAtSchema path before now stop.WriteFault = ⊥
-  StopsAtSchema path before now stop.NoMemory = IsOpened path before now
+    -- the file at the path declares no schema
+    pub record IsSchemaRefused (refusal : Refusal) : Type 0 where
+      pub text : List ℕ
+      pub whole : IsReadWhole text_limit path before now text
+      pub refused : RefusesSchema text refusal
 
-  -- why the queries at this path were not read
-  abbrev pub StopsAtQueries : List ℕ → Told → Told → Stop → Type 0
-  StopsAtQueries path before now stop.WordsRefused = ⊥
-  StopsAtQueries path before now (stop.OpenFault which.Schema) = ⊥
-  StopsAtQueries path before now (stop.OpenFault which.Queries) = IsOpenFault path before now
-  StopsAtQueries path before now (stop.ReadFault which.Schema) = ⊥
-  StopsAtQueries path before now (stop.ReadFault which.Queries) = IsReadFault path before now
-  StopsAtQueries path before now (stop.TooLong which.Schema) = ⊥
-  StopsAtQueries path before now (stop.TooLong which.Queries) = IsTooLong path before now
-  StopsAtQueries path before now (stop.SchemaRefused refusal) = ⊥
-  StopsAtQueries path before now stop.WriteFault = ⊥
-  StopsAtQueries path before now stop.NoMemory = IsOpened path before now
+    -- the entries are right for the queries of the file at the path, by what is asked
+    pub record AreQueriesRead (asked : Asked) (schema : List Table) (queries : List QueryRun) : Type 0 where
+      pub text : List ℕ
+      pub whole : IsReadWhole text_limit path before now text
+      pub right : AreRightQueries asked schema text queries
 
-  -- the schema was read, and then, from a moment between, the queries: the run is right for both files
-  pub record IsFinished (paths : Paths) (before now : Told) (run : Run) : Type 0 where
-    pub between : Told
-    pub schema : IsSchemaRead paths.schema before between run.schema
-    pub queries : AreQueriesRead paths.queries between now run.schema run.queries
+    -- the file at the path is one of these certificates
+    pub record AreCertsRead (certs : List Cert) : Type 0 where
+      pub text : List ℕ
+      pub whole : IsReadWhole certs_limit path before now text
+      pub reads : ReadsAs text certs
 
-  -- the schema was read, and then, from a moment between, the queries were not
-  pub record IsStoppedBetween (paths : Paths) (before now : Told) (run : Run) (s : Stop) : Type 0 where
-    pub between : Told
-    pub schema : IsSchemaRead paths.schema before between run.schema
-    pub no_query : run.queries ≡ []
-    pub stopped : StopsAtQueries paths.queries between now s
+    -- the file at the path is no file of certificates
+    pub record AreCertsRefused (fault : CertFault) : Type 0 where
+      pub text : List ℕ
+      pub whole : IsReadWhole certs_limit path before now text
+      pub refused : Refuses text fault
 
-  -- at the paths that the words name a stop comes only by its cause: at the schema, and then the run holds
-  -- nothing, or at the queries, and then the run holds the schema that its file declares; memory may also
-  -- run out once the run is right for both files; without a stop it is
-  abbrev pub HasCauseAt : Paths → Told → Told → Run → Option Stop → Type 0
-  HasCauseAt paths before now run None = IsFinished paths before now run
-  HasCauseAt paths before now run (Some s) =
-      (StopsAtSchema paths.schema before now s × IsUnbegun run)
-      ⊎ (IsStoppedBetween paths before now run s ⊎ ((s ≡ stop.NoMemory) × IsFinished paths before now run))
+    -- why the schema at this path was not read
+    abbrev pub StopsAtSchema : Stop → Type 0
+    StopsAtSchema (stop.OpenFault which.Schema) = IsOpenFault path before now
+    StopsAtSchema (stop.ReadFault which.Schema) = IsReadFault text_limit path before now
+    StopsAtSchema (stop.TooLong which.Schema) = IsTooLong text_limit path before now
+    StopsAtSchema (stop.SchemaRefused refusal) = IsSchemaRefused refusal
+    StopsAtSchema stop.NoMemory = IsOpened text_limit path before now
+    StopsAtSchema other = ⊥
 
-  -- words that name no paths are refused, and nothing is read
-  abbrev pub HasCause : Option Paths → Told → Told → Run → Option Stop → Type 0
-  HasCause None before now run None = ⊥
+    -- why the queries at this path were not read
+    abbrev pub StopsAtQueries : Stop → Type 0
+    StopsAtQueries (stop.OpenFault which.Queries) = IsOpenFault path before now
+    StopsAtQueries (stop.ReadFault which.Queries) = IsReadFault text_limit path before now
+    StopsAtQueries (stop.TooLong which.Queries) = IsTooLong text_limit path before now
+    StopsAtQueries stop.NoMemory = IsOpened text_limit path before now
+    StopsAtQueries other = ⊥
+
+    -- why the certificates at this path were not read, or not checked
+    abbrev pub StopsAtCerts : Stop → Type 0
+    StopsAtCerts (stop.OpenFault which.Certs) = IsOpenFault path before now
+    StopsAtCerts (stop.ReadFault which.Certs) = IsReadFault certs_limit path before now
+    StopsAtCerts (stop.TooLong which.Certs) = IsTooLong certs_limit path before now
+    StopsAtCerts (stop.CertsRefused cert_fault.NoMemory) = ⊥
+    StopsAtCerts (stop.CertsRefused fault) = AreCertsRefused fault
+    StopsAtCerts stop.NoMemory = IsOpened certs_limit path before now
+    StopsAtCerts other = ⊥
+
+  module _ (wanted : Wanted) (before now : Told) (run : Run) where
+    -- the schema was read, and then, from a moment between, the queries, of which the run tells right
+    pub record IsJudged : Type 0 where
+      pub between : Told
+      pub schema : IsSchemaRead wanted.paths.schema before between run.schema
+      pub queries : AreQueriesRead wanted.paths.queries between now wanted.asked run.schema run.queries
+      pub no_checks : run.checks ≡ []
+
+    -- the schema was read, then the queries, then the certificates at this path, of whose check the run tells
+    pub record IsChecked (path : List ℕ) : Type 0 where
+      pub first : Told
+      pub second : Told
+      pub schema : IsSchemaRead wanted.paths.schema before first run.schema
+      pub queries : AreQueriesRead wanted.paths.queries first second wanted.asked run.schema run.queries
+      pub certs : List Cert
+      pub certs_are : AreCertsRead path second now certs
+      pub checks : run.checks ≡ checks_of run.schema run.queries certs
+
+    -- all files were read, and the run is right for them
+    abbrev pub FinishedBy : Asked → Type 0
+    FinishedBy (judges budget form) = IsJudged
+    FinishedBy (checks path) = IsChecked path
+
+    -- the schema was read, and then, from a moment between, the queries were not
+    pub record IsStoppedAtQueries (s : Stop) : Type 0 where
+      pub between : Told
+      pub schema : IsSchemaRead wanted.paths.schema before between run.schema
+      pub nothing : HoldsNothing run
+      pub stopped : StopsAtQueries wanted.paths.queries between now s
+
+    -- the schema was read, then these queries, and then the certificates at this path were not, or not checked
+    pub record IsStoppedBehind (path : List ℕ) (s : Stop) : Type 0 where
+      pub first : Told
+      pub second : Told
+      pub schema : IsSchemaRead wanted.paths.schema before first run.schema
+      pub queries : List QueryRun
+      pub queries_are : AreQueriesRead wanted.paths.queries first second wanted.asked run.schema queries
+      pub nothing : HoldsNothing run
+      pub stopped : StopsAtCerts path second now s
+
+    abbrev pub StoppedBehindBy : Asked → Stop → Type 0
+    StoppedBehindBy (judges budget form) s = ⊥
+    StoppedBehindBy (checks path) s = IsStoppedBehind path s
+
+    -- A stop comes only by its cause: at the schema, and then the run holds nothing; or at the queries or the certificates, and then
+    -- the run holds the schema that its file declares. Memory may also run out once the run is right for all files. Without
+    -- a stop it is.
+    abbrev pub HasCauseFor : Option Stop → Type 0
+    HasCauseFor None = FinishedBy wanted.asked
+    HasCauseFor (Some s) =
+        (StopsAtSchema wanted.paths.schema before now s × IsUnbegun run)
+        ⊎ (IsStoppedAtQueries s ⊎ (StoppedBehindBy wanted.asked s ⊎ ((s ≡ stop.NoMemory) × FinishedBy wanted.asked)))
+
+  -- words that are no command are refused, and nothing is read
+  abbrev pub HasCause : Option Wanted → Told → Told → Run → Option Stop → Type 0
+  HasCause (Some wanted) before now run s = HasCauseFor wanted before now run s
   HasCause None before now run (Some stop.WordsRefused) = (now ≡ before) × IsUnbegun run
-  HasCause None before now run (Some (stop.OpenFault file)) = ⊥
-  HasCause None before now run (Some (stop.ReadFault file)) = ⊥
-  HasCause None before now run (Some (stop.TooLong file)) = ⊥
-  HasCause None before now run (Some (stop.SchemaRefused refusal)) = ⊥
-  HasCause None before now run (Some stop.WriteFault) = ⊥
   HasCause None before now run (Some stop.NoMemory) = (now ≡ before) × IsUnbegun run
-  HasCause (Some paths) before now run s = HasCauseAt paths before now run s
+  HasCause None before now run other = ⊥
 
 -- memory ran out
 abbrev pub is_no_memory : Option Stop → Bool
-is_no_memory None = false
-is_no_memory (Some stop.WordsRefused) = false
-is_no_memory (Some (stop.OpenFault file)) = false
-is_no_memory (Some (stop.ReadFault file)) = false
-is_no_memory (Some (stop.TooLong file)) = false
-is_no_memory (Some (stop.SchemaRefused refusal)) = false
-is_no_memory (Some stop.WriteFault) = false
 is_no_memory (Some stop.NoMemory) = true
+is_no_memory other = false

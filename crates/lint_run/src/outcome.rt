@@ -1,4 +1,5 @@
 //! What a run of the program comes to.
+use cert_format::CertFault;
 use lint_base::Refusal;
 use lint_core::Run;
 
@@ -7,21 +8,24 @@ use lint_core::Run;
 pub enum Which {
     Schema,
     Queries,
+    Certs,
 }
 
 /// What ended a run early.
 #[derive(Clone, Copy, Debug, PartialEq, Eq)]
 pub enum Stop {
-    /// The words are not two files.
+    /// The words are no command.
     WordsRefused,
     /// The shelf did not open the file.
     OpenFault(Which),
     /// The shelf failed to read the file.
     ReadFault(Which),
-    /// The file has more than 1,048,576 bytes.
+    /// The file has more than 1,048,576 bytes, or, of certificates, more than 16,777,216.
     TooLong(Which),
     /// The file declares no schema.
     SchemaRefused(Refusal),
+    /// The file is none of certificates.
+    CertsRefused(CertFault),
     /// The sink failed. It replaces the stop whose line was being written.
     WriteFault,
     /// Memory ran out.

@@ -1,7 +1,7 @@
 //! Laws of reading, over the definitions of the crates below: every text has one lexing, its
 //! tokens have one tree, and so every schema text and every piece of a query file has one reading,
-//! or one refusal. Each law is the contract of a function that does nothing, and no crate stands
-//! on this one.
+//! or one refusal. Each law is the contract of a function that does nothing; only crates of laws
+//! stand on this one.
 //!
 //! Of `specs/` a reader must believe `SameRefusal` (when two refusals tell the same) and
 //! `Examples` (trees and tokens that `grammar_examples` joins); all else that the laws speak of

@@ -144,8 +144,10 @@ fn all_bound(parts: &[Formula], outside: &Outside) -> bool
 }
 
 impl Formula {
+    /// How many nodes the formula has: atoms, And, Or and quantifiers. The greatest `u64` where
+    /// there are more. It takes no memory.
     #[cycle(nodes)]
-    fn nodes(&self) -> u64
+    pub fn nodes(&self) -> u64
         ensures { result ≡ min (nodes self.now) (2 ^ 64 - 1) }
     {
         match self {

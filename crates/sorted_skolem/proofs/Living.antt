@@ -1,9 +1,9 @@
 -- Lists of tables: which tables they have, ascending lists, and the least set of wanted tables.
-use Rattle.std.proofs.Common.{◌≡◌, ◌∙◌, sym, ap, ap₂, refl, subst, ℕ, zero, suc, ◌+◌, ◌<◌, ◌≤◌, ◌⊎◌, inl, inr, Bool, true, false, cond, ◌&&◌, ◌||◌, List, [], ◌∷◌, ◌++◌, length, map, take, drop, arith}
+use Rattle.std.proofs.Common.{◌≡◌, ◌∙◌, sym, ap, ap₂, refl, subst, ℕ, suc, ◌+◌, ◌<◌, ◌≤◌, ◌⊎◌, inl, inr, Bool, true, false, cond, ◌&&◌, ◌||◌, List, [], ◌∷◌, ◌++◌, length, map, take, arith}
 use Rattle.std.proofs.lemmas.Bool.{eqb-true}
 use Rattle.std.proofs.lemmas.Bool.Decides.{nat_tests}
 use Rattle.std.proofs.lemmas.Option.{same_Some, slice_get_within}
-use Rattle.std.specs.List.{filter, list_any, list_all, insert, take_while, prefix_len}
+use Rattle.std.specs.List.{filter, list_all, insert, take_while, prefix_len}
 use Rattle.std.specs.Prelude.{Some, slice_get, nat_eq, nat_lt}
 use Rattle.lint_base.proofs.Lists.{both_left, both_right}
 use Rattle.sorted_skolem.specs.declared.asks.Ask.{Ask}

@@ -1,13 +1,18 @@
 -- A walk back along edges that comes to a table for the second time closes a cycle.
-use Rattle.std.proofs.Common.{◌≡◌, ◌∙◌, sym, ap, refl, subst, ℕ, suc, zero, ◌+◌, Bool, true, false, cond, ◌||◌, List, [], ◌∷◌, ◌++◌, drop, arith}
+use Rattle.std.proofs.Common.{◌≡◌, ◌∙◌, sym, ap, refl, subst, ℕ, suc, zero, ◌+◌, ◌<◌, inl, Bool, true, false, cond, ◌||◌, List, [], ◌∷◌, ◌++◌, length, get_or, drop, arith}
 use Rattle.std.proofs.lemmas.Bool.{eqb-true}
+use Rattle.std.proofs.lemmas.Bool.Decides.{nat_tests}
 use Rattle.std.proofs.lemmas.Iterator.Adapters.{position_from-zero}
-use Rattle.std.specs.List.{position, position_from}
+use Rattle.std.specs.List.{IsDistinct, position, position_from}
 use Rattle.std.proofs.lemmas.List.{reverse-append}
+use Rattle.std.proofs.lemmas.List.Sorted.{IsPermutation-reverse}
+use Rattle.std.proofs.lemmas.Map.Keys.{IsDistinct-IsPermutation}
 use Rattle.std.proofs.lemmas.Option.{same_Some}
 use Rattle.std.specs.Prelude.{Option, Some, None, nat_eq, slice_get, reverse}
+use Rattle.lint_base.proofs.Lists.{every_append}
 use Rattle.sorted_skolem.specs.declared.edges.Edge.{Edge}
 use Rattle.sorted_skolem.specs.inner.Waiting.{has, HasEdge, LeadsOn, IsRound, Backs}
+use Rattle.sorted_skolem.proofs.Living.{among_has}
 
 module _ (edges : List Edge) where
   pub backs_push : (walk : List ℕ) (at from : ℕ) → Backs edges walk at → HasEdge edges from at → Backs edges (walk ++ at ∷ []) from
@@ -96,3 +101,38 @@ none_from at k (x ∷ xs) is = none_cond (nat_eq x at) (has xs at) k (position_f
 
 pub place_none : (at : ℕ) (xs : List ℕ) → position (λ (other : ℕ). nat_eq other at) xs ≡ None → has xs at ≡ false
 place_none at xs is = none_from at 0 xs (sym (position_from-zero (λ (other : ℕ). nat_eq other at) xs) ∙ is)
+
+-- ---- where the walk begins
+
+pub first_waits : (waiting : List ℕ) → 0 < length waiting → has waiting (get_or waiting 0 0) ≡ true
+first_waits [] some = absurd (omega arith)
+first_waits (table ∷ tables) some = among_has (table ∷ tables) table (inl refl)
+
+-- ---- no table twice
+
+pub simple_none : IsDistinct nat_eq []
+unfolding IsDistinct
+simple_none = tt
+
+pub simple_push : (walk : List ℕ) (at : ℕ) → IsDistinct nat_eq walk → has walk at ≡ false → IsDistinct nat_eq (walk ++ at ∷ [])
+unfolding IsDistinct
+simple_push [] at simple none = (tt, tt)
+simple_push (x ∷ xs) at simple none =
+    let parts = neither (nat_eq x at) (has xs at) none in
+    (every_append (λ y. nat_eq x y ≡ false) xs (at ∷ []) simple.0 (parts.0, tt), simple_push xs at simple.1 parts.1)
+  where
+    neither : (a b : Bool) → (a || b) ≡ false → (a ≡ false) × (b ≡ false)
+    neither false b none = (refl, none)
+    neither true b none = cc
+
+pub simple_drop : (n : ℕ) (walk : List ℕ) → IsDistinct nat_eq walk → IsDistinct nat_eq (drop n walk)
+unfolding IsDistinct
+simple_drop zero walk simple = simple
+simple_drop (suc n) [] simple = simple
+simple_drop (suc n) (x ∷ walk) simple = simple_drop n walk simple.1
+
+nat_eq_flips : (m n : ℕ) → nat_eq m n ≡ nat_eq n m
+nat_eq_flips m n = grind (arith, nat_tests)
+
+pub simple_reverse : (walk : List ℕ) → IsDistinct nat_eq walk → IsDistinct nat_eq (reverse walk)
+simple_reverse walk simple = IsDistinct-IsPermutation nat_eq nat_eq_flips walk (reverse walk) (IsPermutation-reverse walk) simple

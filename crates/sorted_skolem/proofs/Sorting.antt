@@ -1,13 +1,13 @@
 -- The live tables in layers: first those to which no edge leads, then those to which edges lead from these alone, and so on.
-use Rattle.std.proofs.Common.{◌≡◌, ◌∙◌, sym, ap, ap₂, refl, subst, ℕ, zero, suc, ◌+◌, ◌<◌, ◌≤◌, ◌⊎◌, inl, inr, Bool, true, false, cond, ◌&&◌, List, [], ◌∷◌, ◌++◌, length, map, arith}
+use Rattle.std.proofs.Common.{◌≡◌, ◌∙◌, sym, ap, ap₂, refl, subst, ℕ, suc, ◌+◌, ◌<◌, ◌≤◌, ◌⊎◌, inl, inr, Bool, true, false, cond, ◌&&◌, List, [], ◌∷◌, ◌++◌, length, map, arith}
 use Rattle.std.proofs.lemmas.Bool.{eqb-true, and_parts}
 use Rattle.std.proofs.lemmas.Option.{same_Some}
-use Rattle.std.specs.List.{filter, list_any, list_all, flat_map}
-use Rattle.std.specs.Prelude.{Option, Some, None, slice_get, nat_eq, ◌↔◌, find, option_map, is_none, is_some, IsSome, Contains, if◌then◌else◌}
+use Rattle.std.specs.List.{filter, list_all, flat_map}
+use Rattle.std.specs.Prelude.{Option, Some, None, nat_eq, ◌↔◌, find, option_map, is_none, is_some, IsSome, if◌then◌else◌}
 use Rattle.sort_formula.specs.declared.formula.Formula.{Formula}
 use Rattle.sorted_skolem.specs.declared.asks.Ask.{Ask}
 use Rattle.sorted_skolem.specs.declared.edges.Edge.{Edge}
-use Rattle.sorted_skolem.specs.Graph.{Asks, IsLive, asked, GivesEdge, IsEdge, LeadsTo, IsCycle, HasPath, here, farther, HasDepth, StandsBefore, AreOrdered, IsOrder}
+use Rattle.sorted_skolem.specs.Graph.{Asks, IsLive, asked, IsEdge, LeadsTo, IsClosed, HasPath, here, farther, HasDepth, AreOrdered, IsOrder}
 use Rattle.sorted_skolem.specs.Preorder.{outlines_of}
 use Rattle.sorted_skolem.specs.inner.Asks.{asks_from}
 use Rattle.sorted_skolem.specs.inner.Waiting.{has, Rises, IsWanted, wanted, edges_at, source_of, HasEdge, LeadsOn, IsRound}
@@ -282,7 +282,7 @@ module _ (sentences : List Formula) where
           | inr some ↦ some
         ]
 
-    pub rounds : (round : List ℕ) → IsRound edges round → IsCycle sentences round
+    pub rounds : (round : List ℕ) → IsRound edges round → IsClosed sentences round
     rounds [] is = is
     rounds (t ∷ ts) is = leads t t ts is
       where

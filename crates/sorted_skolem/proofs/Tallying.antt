@@ -10,7 +10,6 @@ use Rattle.std.proofs.lemmas.Grind.{flat_map-append}
 use Rattle.std.specs.List.{filter, flat_map, list_any}
 use Rattle.std.specs.Option.{option_map_or}
 use Rattle.std.specs.Prelude.{Option, Some, None, slice_get, nat_eq, if◌then◌else◌}
-use Rattle.lint_base.proofs.Lists.{slice_get_last, slice_get_front}
 use Rattle.lint_core.specs.Database.{below}
 use Rattle.sort_formula.specs.declared.formula.Formula.{Formula}
 use Rattle.sorted_skolem.specs.declared.asks.Ask.{Ask}

@@ -1,9 +1,8 @@
 -- The Exists nodes that a walk meets are those of the outlines.
-use Rattle.std.proofs.Common.{◌≡◌, ◌∙◌, sym, ap, ap₂, refl, subst, ℕ, zero, suc, ◌+◌, ◌⊎◌, Bool, true, false, cond, inl, inr, List, [], ◌∷◌, ◌++◌, length, map, drop, append_assoc, arith}
+use Rattle.std.proofs.Common.{◌≡◌, ◌∙◌, sym, ap, ap₂, refl, subst, ℕ, suc, ◌+◌, ◌⊎◌, Bool, true, false, cond, inl, inr, List, [], ◌∷◌, ◌++◌, length, map, drop, append_assoc, arith}
 use Rattle.std.proofs.lemmas.List.{map-append, length-append}
 use Rattle.std.proofs.lemmas.List.Elements.{filter-append}
 use Rattle.std.proofs.lemmas.Grind.{flat_map-append}
-use Rattle.std.proofs.lemmas.Option.{same_Some}
 use Rattle.std.specs.List.{filter, flat_map}
 use Rattle.std.specs.Prelude.{Option, Some, None, slice_get, option_and_then}
 use Rattle.sort_formula.specs.declared.formula.Formula.{Formula, ind-Formula, roll-Formula, out-Formula, fold-roll-Formula, fold_out-Formula, map-Formula}
@@ -11,7 +10,7 @@ use Rattle.sort_formula.specs.declared.formula.Formula.TheVariants as f
 use Rattle.sort_formula.specs.declared.formula.Formula.TheOpen.{Formula-F}
 use Rattle.sorted_skolem.specs.declared.asks.Ask.{Ask}
 use Rattle.sorted_skolem.specs.Graph.{Asks}
-use Rattle.sorted_skolem.specs.Preorder.{Quantifier, Way, Node, Laid, laid, laid_step, laid_parts, below_step, nodes_of, outlines_of, node_at, is_forall_of, forall_tables, exists_table}
+use Rattle.sorted_skolem.specs.Preorder.{Quantifier, Way, Node, Laid, laid, laid_step, laid_parts, nodes_of, outlines_of, node_at, is_forall_of, forall_tables, exists_table}
 use Rattle.sorted_skolem.specs.Terms.{numbered}
 use Rattle.sorted_skolem.specs.inner.Asks.{Told, sizes, parts_asks, told_step, told, asks_from}
 use Rattle.sorted_skolem.proofs.Steps.{drop_next}

@@ -1,7 +1,8 @@
 -- Which tables need rows, and from which other tables' rows. A table is live where some sentence asks for a row of it: it
 -- has an Exists over the table, and every Forall around that is over a live table. Such an Exists gives an edge from the
 -- table of each Forall around it to its own table.
-use Rattle.std.specs.Prelude.{◌≡◌, ℕ, suc, ◌<◌, ◌≤◌, ◌⊎◌, ◌↔◌, List, [], ◌∷◌, Some, slice_get, Contains}
+use Rattle.std.specs.List.{IsDistinct}
+use Rattle.std.specs.Prelude.{◌≡◌, ℕ, suc, ◌<◌, ◌≤◌, ◌⊎◌, ◌↔◌, List, [], ◌∷◌, Some, slice_get, nat_eq, Contains}
 use Rattle.sort_formula.specs.declared.formula.Formula.{Formula}
 use Rattle.sorted_skolem.specs.Preorder.{Node, outlines_of, node_at, forall_tables, exists_table}
 
@@ -39,12 +40,18 @@ module _ (sentences : List Formula) where
   LeadsTo end table (next ∷ tables) = IsEdge table next × LeadsTo end next tables
 
   -- each table has an edge to the next, and the last to the first
-  abbrev pub IsCycle : List ℕ → Type 0
-  IsCycle [] = ⊥
-  IsCycle (table ∷ tables) = LeadsTo table table tables
+  abbrev pub IsClosed : List ℕ → Type 0
+  IsClosed [] = ⊥
+  IsClosed (table ∷ tables) = LeadsTo table table tables
 
+  -- and it comes to no table twice
+  pub record IsCycle (tables : List ℕ) : Type 0 where
+    pub closed : IsClosed tables
+    pub simple : IsDistinct nat_eq tables
+
+  -- no edges lead from a table round to itself, in whatever way
   abbrev pub IsAcyclic : Type 0
-  IsAcyclic = (tables : List ℕ) → ¬ (IsCycle tables)
+  IsAcyclic = (tables : List ℕ) → ¬ (IsClosed tables)
 
 -- a path of so many edges to a live table
 pub data HasPath (sentences : List Formula) : ℕ → ℕ → Type 0 where

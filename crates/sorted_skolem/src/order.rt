@@ -1,5 +1,6 @@
 //! The live tables in order, or a cycle of edges.
 ghost use Rattle.std.specs.Prelude.{◌≡◌, ◌<◌, ℕ, true, length, nat_eq, position, IfOk, IfErr, IsSome, reverse};
+ghost use Rattle.std.specs.List.{IsDistinct};
 ghost use Rattle.sorted_skolem.specs.Graph.{IsOrder, IsCycle};
 ghost use Rattle.sorted_skolem.specs.Stops.{IfCycle};
 ghost use Rattle.sorted_skolem.specs.inner.Waiting.{has, source_of, IsRound};
@@ -14,7 +15,7 @@ use std::alloc::{AllocError, Global};
 /// Why the live tables have no order.
 #[derive(Debug, Drop)]
 pub enum SortStop {
-    /// Each table has an edge to the next, and the last to the first.
+    /// Each table has an edge to the next, and the last to the first; none stands there twice.
     Cycle { tables: Items<u32> },
     /// Memory ran out.
     NoMemory,
@@ -45,7 +46,8 @@ impl From<AllocError> for SortStop {
 /// The tables of whose rows the sentences ask, in order: by the length of the longest path of
 /// edges that leads to a table, then by the table's number.
 ///
-/// `Cycle` where edges lead from a table round to itself: its tables in turn. `NoMemory` where
+/// `Cycle` where edges lead from a table round to itself: the tables of such a round in turn, none
+/// of them twice. `NoMemory` where
 /// memory runs out, or a sentence has more nodes than any memory holds.
 pub fn sort_order(alloc: Global, sentences: &[Sentence]) -> Result<Order, SortStop>
     ensures order { IfOk result (λ o. IsOrder sentences.now o.tables) }
@@ -74,7 +76,8 @@ fn round(alloc: Global, edges: &[Edge], waiting: &[u32]) -> Result<Items<u32>, N
     requires some { 0 < length waiting.now }
     requires stuck { (table : ℕ) → has waiting.now table ≡ true
         → IsSome (source_of edges.now waiting.now table) }
-    ensures { IfOk result (λ tables. IsRound edges.now tables) }
+    ensures closed { IfOk result (λ tables. IsRound edges.now tables) }
+    ensures simple { IfOk result (λ tables. IsDistinct nat_eq tables) }
 {
     let mut walk: Vec<u32> = Vec::new(alloc);
     let mut at = waiting[0];

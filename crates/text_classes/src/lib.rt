@@ -8,7 +8,7 @@
 //! class that no constant text reaches gets a text that begins as no constant text does.
 //!
 //! A body that answers `NoMemory` at once meets the contract of `classes`, since no clause can say
-//! that memory is left: the tests show that it succeeds.
+//! that memory is left: the tests of `worked_searches` show that it succeeds.
 #![tactic(auto)]
 
 mod facts;

@@ -16,9 +16,13 @@ use Rattle.instantiate.specs.declared.problem.Problem.{Problem}
 use Rattle.instantiate.specs.Cases.{IsDatabaseOf}
 use Rattle.instantiate.specs.Plain.{plain_row}
 
--- the place of a row term; 0 of one that has none
+-- the place of a row term, if it has one
+abbrev pub place_of : List (Option ℕ) → ℕ → Option ℕ
+place_of places row = option_and_then (λ (o : Option ℕ). o) (slice_get places row)
+
+-- and 0 of one that has none
 abbrev pub place_for : List (Option ℕ) → ℕ → ℕ
-place_for places row = unwrap_or (option_and_then (λ (o : Option ℕ). o) (slice_get places row)) 0
+place_for places row = unwrap_or (place_of places row) 0
 
 -- those of the row terms for which the first nodes of the first sentence ask, so many
 abbrev pub leading_places : List RowTerm → List (Option ℕ) → ℕ → List ℕ

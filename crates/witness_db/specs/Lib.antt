@@ -1,2 +1,3 @@
+pub mod FullCases
 pub mod Leading
 pub mod inner

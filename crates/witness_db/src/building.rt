@@ -1,5 +1,5 @@
 //! A database in which a question fails, with its points.
-ghost use Rattle.std.specs.Prelude.{◌≡◌, ◌≤◌, ◌<◌, ◌^◌, ℕ, true, List, [], All, Contains, Option, Some, length, slice_get, IfOk};
+ghost use Rattle.std.specs.Prelude.{◌≡◌, ℕ, true, List, [], All, Contains, Option, Some, length, slice_get, IfOk};
 ghost use Rattle.lint_core.specs.declared.database.Database.{Database as SomeDatabase};
 ghost use Rattle.lint_core.specs.declared.database.Value.{Value as SomeValue};
 ghost use Rattle.lint_core.specs.declared.query.Query.{Query as SomeQuery};
@@ -16,15 +16,11 @@ ghost use Rattle.sort_formula.specs.CounterPoints.{are_there, points_of};
 ghost use Rattle.sort_formula.specs.Counters.{counter, counter_sentence};
 ghost use Rattle.sort_formula.specs.Holds.{holds};
 ghost use Rattle.sort_formula.specs.Loose.{refutes_loosely};
-ghost use Rattle.sort_formula.specs.Nodes.{nodes};
-ghost use Rattle.sort_formula.specs.Sentences.{is_sentence};
 ghost use Rattle.ground_theory.specs.declared.literal.Assignment.{Assignment};
-ghost use Rattle.ground_theory.specs.Assignments.{IsAssignment, satisfies_all};
-ghost use Rattle.case_split.specs.Cases.{IsFullCase};
-ghost use Rattle.case_split.specs.Choices.{Choices, literals_of};
-ghost use Rattle.ground_theory.specs.Judgeable.{is_frame};
+ghost use Rattle.case_split.specs.Choices.{Choices};
 ghost use Rattle.instantiate.specs.declared.problem.Problem.{Problem as SomeProblem};
-ghost use Rattle.instantiate.specs.Cases.{IsDatabaseOf, IsProblem};
+ghost use Rattle.instantiate.specs.Cases.{IsDatabaseOf};
+ghost use Rattle.witness_db.specs.FullCases.{CanBePlaced, IsFullCaseOf};
 ghost use Rattle.witness_db.specs.Leading.{IsCounterOf, leading_places};
 ghost use Rattle.witness_db.specs.inner.Fitting.{ArePoints, fitting_of, lead_of};
 
@@ -41,12 +37,8 @@ use std::alloc::Global;
 /// In the database of a full case of a problem whose first sentence is the counter sentence of a
 /// question, the points that the leading row terms make refute the question loosely.
 fn leading_terms_refute()
-    ensures { (schema : List Table) (problem : SomeProblem) → IsProblem schema problem
-        → ((sentence : ℕ) (formula : Formula)
-        → slice_get problem.sentences sentence ≡ Some formula → is_sentence formula ≡ true)
-        → (choices : Choices) → IsFullCase problem.clauses problem.frame choices
-        → (a : Assignment) → IsAssignment problem.frame a
-        → satisfies_all a (literals_of problem.clauses choices) ≡ true
+    ensures { (schema : List Table) (problem : SomeProblem) (choices : Choices)
+        (a : Assignment) → IsFullCaseOf schema problem choices a
         → (db : SomeDatabase) (places : List (Option ℕ))
         → IsDatabaseOf problem choices a db places
         → (query : SomeQuery) → query_fits schema query ≡ true
@@ -84,18 +76,9 @@ pub fn build(
     requires asked { is_asked schema.now query.now question ≡ true }
     requires counter { slice_get problem.now.sentences 0
         ≡ Some (counter_sentence schema.now query.now question given.now) }
-    requires problem { IsProblem schema.now problem.now }
-    requires sentences { (sentence : ℕ) (formula : Formula)
-        → slice_get problem.now.sentences sentence ≡ Some formula
-        → is_sentence formula ≡ true }
-    requires few { length problem.now.rows.terms ≤ 512 }
-    requires clauses { length problem.now.clauses ≤ 400000 }
-    requires nodes { All (λ s. nodes s < 2 ^ 32) problem.now.sentences }
-    requires frame { is_frame problem.now.frame ≡ true }
-    requires full { IsFullCase problem.now.clauses problem.now.frame branch.now.choices }
-    requires assignment { IsAssignment problem.now.frame branch.now.assignment }
-    requires satisfied { satisfies_all branch.now.assignment
-        (literals_of problem.now.clauses branch.now.choices) ≡ true }
+    requires full { IsFullCaseOf schema.now problem.now branch.now.choices
+        branch.now.assignment }
+    requires limits { CanBePlaced problem.now }
     ensures made { IfOk result (IsCounterOf schema.now query.now question given.now problem.now
         branch.now.choices branch.now.assignment) }
     ensures fits { IfOk result (λ c. database_fits schema.now c.database ≡ true) }

@@ -1,38 +1,11 @@
 //! Where the two rows of a needless join's entry stand in its counter sentence.
-ghost use Rattle.std.specs.Prelude.{◌≡◌, ◌<◌, ◌+◌, ◌++◌, ◌∷◌, ◌-◌, ◌^◌, [], ℕ, List, length, map, min, sum, MatchOption};
+ghost use Rattle.std.specs.Prelude.{◌≡◌, ◌<◌, ◌+◌, ◌++◌, ◌∷◌, ◌^◌, [], ℕ, List, length, map, sum, MatchOption};
 ghost use Rattle.sort_formula.specs.declared.formula.Formula.{Formula as Tree};
 ghost use Rattle.sort_formula.specs.declared.formula.Formula.TheVariants as f;
 ghost use Rattle.sort_formula.specs.Nodes.{nodes};
 ghost use Rattle.sort_formula.specs.Translation.{exist_rows};
 
 use sort_formula::{Formula, Sentence};
-
-/// How many nodes the formula has; the greatest `u64` where there are more.
-#[cycle(count)]
-fn count_nodes(formula: &Formula) -> u64
-    ensures { result ≡ min (nodes formula.now) (2 ^ 64 - 1) }
-{
-    match formula {
-        Formula::Atom(_) => 1,
-        Formula::And(parts) | Formula::Or(parts) => {
-            count_all_nodes(parts.as_slice()).saturating_add(1)
-        }
-        Formula::Exists { body, .. } | Formula::Forall { body, .. } => {
-            count_nodes(body.get()).saturating_add(1)
-        }
-    }
-}
-
-#[cycle(count)]
-fn count_all_nodes(parts: &[Formula]) -> u64
-    ensures { result ≡ min (sum (map nodes parts.now)) (2 ^ 64 - 1) }
-{
-    let mut count: u64 = 0;
-    for part in parts {
-        count = count.saturating_add(count_nodes(part));
-    }
-    count
-}
 
 /// What stands inside so many quantifiers.
 fn body_of(sentence: &Formula, count: usize) -> &Formula
@@ -78,7 +51,11 @@ pub(crate) fn last_way(sentence: &Sentence, count: usize) -> usize
         return 0;
     };
     match last_part(part) {
-        Some(way) => sentence.nodes().saturating_sub(count_nodes(way)) as usize,
+        Some(way) => {
+            let all = sentence.nodes();
+            let own = way.nodes();
+            all.saturating_sub(own) as usize
+        }
         None => 0,
     }
 }

@@ -8,14 +8,13 @@ ghost use Rattle.lint_core.specs.Schema.{is_schema};
 ghost use Rattle.sort_formula.specs.declared.formula.Formula.{Formula, out-Formula};
 ghost use Rattle.sort_formula.specs.Axioms.{Axiom as Stated, axioms};
 ghost use Rattle.sort_formula.specs.Holds.{holds};
-ghost use Rattle.sort_formula.specs.Sentences.{is_sentence};
 ghost use Rattle.ground_theory.specs.declared.literal.Assignment.{Assignment};
-ghost use Rattle.ground_theory.specs.Assignments.{IsAssignment, satisfies_all};
-ghost use Rattle.case_split.specs.Cases.{IsFullCase};
-ghost use Rattle.case_split.specs.Choices.{Choices, literals_of};
+ghost use Rattle.ground_theory.specs.Assignments.{IsAssignment};
+ghost use Rattle.case_split.specs.Choices.{Choices};
 ghost use Rattle.instantiate.specs.declared.problem.Problem.{Problem};
 ghost use Rattle.instantiate.specs.Cases.{IsDatabaseOf, IsProblem, places_at};
 ghost use Rattle.instantiate.specs.Hanging.{StandsAt};
+ghost use Rattle.witness_db.specs.FullCases.{IsFullCaseOf};
 
 use instantiate::clauses_hang_together;
 use truth_laws::axioms_are_the_constraints;
@@ -24,12 +23,8 @@ use truth_laws::axioms_are_the_constraints;
 /// the classes of the row terms that are present, in an assignment that satisfies the case's
 /// literals.
 pub fn full_case_satisfies_sentences()
-    ensures { (schema : List Table) (problem : Problem) → IsProblem schema problem
-        → ((sentence : ℕ) (formula : Formula)
-        → slice_get problem.sentences sentence ≡ Some formula → is_sentence formula ≡ true)
-        → (choices : Choices) → IsFullCase problem.clauses problem.frame choices
-        → (a : Assignment) → IsAssignment problem.frame a
-        → satisfies_all a (literals_of problem.clauses choices) ≡ true
+    ensures { (schema : List Table) (problem : Problem) (choices : Choices)
+        (a : Assignment) → IsFullCaseOf schema problem choices a
         → (db : Database) (places : List (Option ℕ))
         → IsDatabaseOf problem choices a db places
         → (sentence : ℕ) (formula : Formula)
@@ -40,12 +35,8 @@ pub fn full_case_satisfies_sentences()
 
 /// In that database each formula whose clause is taken holds at the places of its row terms.
 pub fn taken_clauses_hold()
-    ensures { (schema : List Table) (problem : Problem) → IsProblem schema problem
-        → ((sentence : ℕ) (formula : Formula)
-        → slice_get problem.sentences sentence ≡ Some formula → is_sentence formula ≡ true)
-        → (choices : Choices) → IsFullCase problem.clauses problem.frame choices
-        → (a : Assignment) → IsAssignment problem.frame a
-        → satisfies_all a (literals_of problem.clauses choices) ≡ true
+    ensures { (schema : List Table) (problem : Problem) (choices : Choices)
+        (a : Assignment) → IsFullCaseOf schema problem choices a
         → (db : Database) (places : List (Option ℕ))
         → IsDatabaseOf problem choices a db places
         → (clause way : ℕ) (formula : Formula) (variables : List ℕ)
@@ -67,12 +58,8 @@ pub fn databases_are_of_domains()
 
 /// Where the schema's axioms are among the problem's sentences, that database meets the schema.
 pub fn full_case_meets_schema()
-    ensures { (schema : List Table) (problem : Problem) → IsProblem schema problem
-        → ((sentence : ℕ) (formula : Formula)
-        → slice_get problem.sentences sentence ≡ Some formula → is_sentence formula ≡ true)
-        → (choices : Choices) → IsFullCase problem.clauses problem.frame choices
-        → (a : Assignment) → IsAssignment problem.frame a
-        → satisfies_all a (literals_of problem.clauses choices) ≡ true
+    ensures { (schema : List Table) (problem : Problem) (choices : Choices)
+        (a : Assignment) → IsFullCaseOf schema problem choices a
         → (db : Database) (places : List (Option ℕ))
         → IsDatabaseOf problem choices a db places
         → is_schema schema ≡ true

@@ -10,7 +10,7 @@ ghost use Rattle.sort_formula.specs.Counters.{counter_sentence, last_level, oute
 ghost use Rattle.sort_formula.specs.Nodes.{nodes};
 ghost use Rattle.sort_formula.specs.Sides.{all_of};
 ghost use Rattle.instantiate.specs.Plain.{plain_row};
-ghost use Rattle.witness_db.specs.Leading.{leading_places, place_for};
+ghost use Rattle.witness_db.specs.Leading.{leading_places, place_for, place_of};
 ghost use Rattle.witness_db.specs.inner.Fitting.{ArePoints, fitting_of, one_binding, pair_node, two_bindings, two_places};
 
 use crate::formulas::last_way;
@@ -30,14 +30,21 @@ fn plain_row(terms: &[RowTerm], node: usize) -> u32
     term_number(terms, 0, node, &[])
 }
 
+/// The place of a row term, if it has one.
+fn place_of(places: &[Option<u32>], row: u32) -> Option<u32>
+    ensures { result ≡ place_of places.now row }
+{
+    match places.get(row as usize) {
+        Some(place) => *place,
+        None => None,
+    }
+}
+
 /// The place of a row term; 0 where it has none.
 fn place_for(places: &[Option<u32>], row: u32) -> u32
     ensures { result ≡ place_for places.now row }
 {
-    match places.get(row as usize) {
-        Some(Some(place)) => *place,
-        _ => 0,
-    }
+    place_of(places, row).unwrap_or(0)
 }
 
 /// The places of the row terms for which the first nodes ask.
@@ -63,9 +70,9 @@ fn two_places(terms: &[RowTerm], places: &[Option<u32>], node: usize) -> Option<
     requires low { node < 2 ^ 32 }
     ensures { result ≡ two_places terms.now places.now node }
 {
-    match places.get(plain_row(terms, node) as usize) {
-        Some(Some(place)) => Some((*place, place_for(places, plain_row(terms, node + 1)))),
-        _ => None,
+    match place_of(places, plain_row(terms, node)) {
+        Some(place) => Some((place, place_for(places, plain_row(terms, node + 1)))),
+        None => None,
     }
 }
 

@@ -1,18 +1,14 @@
 //! The database of a full case.
-ghost use Rattle.std.specs.Prelude.{◌≡◌, ◌≤◌, ◌<◌, ◌^◌, ℕ, true, List, [], All, Contains, Option, Some, length, slice_get, IfOk};
+ghost use Rattle.std.specs.Prelude.{◌≡◌, ℕ, true, List, [], All, Contains, Some, slice_get, IfOk};
 ghost use Rattle.lint_core.specs.DatabaseFits.{database_fits};
 ghost use Rattle.lint_core.specs.Meets.{is_of_domains, meets};
 ghost use Rattle.sort_formula.specs.declared.formula.Formula.{Formula, out-Formula};
 ghost use Rattle.sort_formula.specs.Axioms.{Axiom as Stated, axioms};
 ghost use Rattle.sort_formula.specs.Holds.{holds};
-ghost use Rattle.sort_formula.specs.Nodes.{nodes};
-ghost use Rattle.sort_formula.specs.Sentences.{is_sentence};
-ghost use Rattle.ground_theory.specs.Assignments.{IsAssignment, satisfies_all};
-ghost use Rattle.case_split.specs.Cases.{IsFullCase};
-ghost use Rattle.case_split.specs.Choices.{literals_of};
-ghost use Rattle.ground_theory.specs.Judgeable.{is_frame};
+ghost use Rattle.ground_theory.specs.Assignments.{IsAssignment};
 ghost use Rattle.instantiate.specs.Cases.{IsDatabaseOf, IsProblem, places_at};
 ghost use Rattle.instantiate.specs.Hanging.{StandsAt};
+ghost use Rattle.witness_db.specs.FullCases.{CanBePlaced, IsFullCaseOf};
 
 use crate::laws::{
     databases_are_of_domains, full_case_meets_schema, full_case_satisfies_sentences,
@@ -40,10 +36,7 @@ fn place_rows(
     branch: &Branch,
 ) -> Result<Placed, NoMemory>
     requires problem { IsProblem schema.now problem.now }
-    requires few { length problem.now.rows.terms ≤ 512 }
-    requires clauses { length problem.now.clauses ≤ 400000 }
-    requires nodes { All (λ s. nodes s < 2 ^ 32) problem.now.sentences }
-    requires frame { is_frame problem.now.frame ≡ true }
+    requires limits { CanBePlaced problem.now }
     requires assignment { IsAssignment problem.now.frame branch.now.assignment }
     ensures { IfOk result (λ p. IsDatabaseOf problem.now branch.now.choices
         branch.now.assignment p.database p.places) }
@@ -72,18 +65,9 @@ pub fn rows_placed(
     problem: &Problem,
     branch: &Branch,
 ) -> Result<Placed, NoMemory>
-    requires problem { IsProblem schema.now problem.now }
-    requires sentences { (sentence : ℕ) (formula : Formula)
-        → slice_get problem.now.sentences sentence ≡ Some formula
-        → is_sentence formula ≡ true }
-    requires few { length problem.now.rows.terms ≤ 512 }
-    requires clauses { length problem.now.clauses ≤ 400000 }
-    requires nodes { All (λ s. nodes s < 2 ^ 32) problem.now.sentences }
-    requires frame { is_frame problem.now.frame ≡ true }
-    requires full { IsFullCase problem.now.clauses problem.now.frame branch.now.choices }
-    requires assignment { IsAssignment problem.now.frame branch.now.assignment }
-    requires satisfied { satisfies_all branch.now.assignment
-        (literals_of problem.now.clauses branch.now.choices) ≡ true }
+    requires full { IsFullCaseOf schema.now problem.now branch.now.choices
+        branch.now.assignment }
+    requires limits { CanBePlaced problem.now }
     ensures rows { IfOk result (λ p. IsDatabaseOf problem.now branch.now.choices
         branch.now.assignment p.database p.places) }
     ensures fits { IfOk result (λ p. database_fits schema.now p.database ≡ true) }

@@ -2,7 +2,7 @@
 //! verdict of each question; the gate compares that with the page `stdout`, which was written by
 //! hand from what the questions mean.
 //!
-//! It stands beside `sqllint`, over `question_engine`, and is no part of it. Nothing stands on it,
+//! It stands beside `sqllint`, over `lint_engine`, and is no part of it. Nothing stands on it,
 //! and nobody has to believe it: what it calls is proved where it stands.
 #![tactic(auto)]
 
@@ -13,7 +13,7 @@ ghost use Rattle.lint_core.specs.Fits.{query_fits};
 
 use lint_base::NoMemory;
 use lint_core::{Answer, Query, Schema};
-use question_engine::ask_all;
+use lint_engine::ask_all;
 use reading::{query, schema};
 use std::alloc::Global;
 use std::io;

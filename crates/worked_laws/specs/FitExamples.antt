@@ -1,8 +1,8 @@
--- Small queries, and databases, for the laws `worked_fitting`, `worked_subqueries`, `worked_first_forms` and
+-- Small queries, and databases, for the laws `worked_fitting`, `worked_subqueries` and
 -- `worked_databases`: each is made from one row of their lists.
-use Rattle.std.specs.Prelude.{ℕ, pos, true, false, List, [], ◌∷◌, map, replicate, codes, Some, None}
+use Rattle.std.specs.Prelude.{ℕ, pos, true, false, List, [], ◌∷◌, map, replicate, codes, Some}
 use Rattle.lint_tables.specs.declared.op.Op.{Op}
-use Rattle.lint_tables.specs.declared.op.Op.TheVariants.{Lt, Gt}
+use Rattle.lint_tables.specs.declared.op.Op.TheVariants.{Lt}
 use Rattle.lint_core.specs.declared.condition.Term.{Term}
 use Rattle.lint_core.specs.declared.condition.Term.TheVariants as term
 use Rattle.lint_core.specs.declared.condition.Block.{Block, roll-Block}
@@ -11,8 +11,6 @@ use Rattle.lint_core.specs.declared.condition.Cond.TheVariants as c
 use Rattle.lint_core.specs.declared.database.Database.{Database}
 use Rattle.lint_core.specs.declared.database.Value.TheVariants.{Int}
 use Rattle.lint_core.specs.declared.query.Query.{Query}
-use Rattle.lint_core.specs.declared.schema.Column.{Column}
-use Rattle.lint_core.specs.declared.schema.Key.{Key}
 use Rattle.lint_core.specs.declared.schema.Domain.TheVariants.{Text}
 use Rattle.lint_core.specs.declared.schema.Table.{Table}
 use Rattle.worked_laws.specs.Examples.{nowhere, number}
@@ -93,32 +91,6 @@ query_where cond = select the_number 1 (from 0 2 cond) the_text
 -- the item, how many times, the key, the number of the table, how many times
 abbrev pub selection : Term × ℕ × Term × ℕ × ℕ → Query
 selection row = select row.0 row.1 (from row.3 row.4 c.True) row.2
-
--- ---- the first form
-
--- `CREATE TABLE T (` the column, the keys`)`
-abbrev pub table_t : Column → List Key → List Table
-table_t column keys = record { name = codes "T"; columns = column ∷ []; keys = keys; checks = []; foreign = [] } ∷ []
-
--- `A INTEGER`
-abbrev pub column_a : Column
-column_a = record { name = codes "A"; domain = integer; not_null = false }
-
-abbrev pub above_five : Cond
-above_five = comparison (the_number, Gt, five)
-
--- `SELECT A FROM` entries of T by these names `WHERE` the condition
-abbrev pub select_a : List (List ℕ) → Cond → Query
-select_a names cond = record {
-  distinct = None;
-  items = record { term = the_number; star = false; span = nowhere } ∷ [];
-  block = roll-Block (record { entries = map (λ name. record { table = 0; name = name; span = nowhere }) names; cond = cond; span = nowhere });
-  order = [];
-}
-
--- `SELECT A FROM T WHERE A > 5`
-abbrev pub the_query : Query
-the_query = select_a (codes "T" ∷ []) above_five
 
 -- ---- databases
 

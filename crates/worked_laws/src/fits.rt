@@ -1,17 +1,15 @@
 //! Which schemas there are, and what fits one, by small examples: lists of what is accepted and of
 //! what is not. The functions do nothing: their contracts are facts about the definitions in
 //! `specs/`.
-ghost use Rattle.std.specs.Prelude.{◌≡◌, pos, true, false, [], ◌∷◌, map, codes, Some};
+ghost use Rattle.std.specs.Prelude.{◌≡◌, pos, true, false, [], ◌∷◌, map};
 ghost use Rattle.std.specs.List.{list_all, list_any, flat_map};
 ghost use Rattle.lint_tables.specs.declared.op.Op.TheVariants.{Eq, Ne, Lt, Le, Gt, Ge};
-ghost use Rattle.lint_core.specs.declared.condition.Cond.TheVariants.{True, And, Or};
+ghost use Rattle.lint_core.specs.declared.condition.Cond.TheVariants.{True};
 ghost use Rattle.lint_core.specs.declared.condition.Term.TheVariants.{Cell, Null};
 ghost use Rattle.lint_core.specs.declared.schema.Domain.TheVariants.{Text};
 ghost use Rattle.lint_core.specs.DatabaseFits.{database_fits};
-ghost use Rattle.worked_laws.specs.Examples.{nowhere, starred};
-ghost use Rattle.lint_core.specs.FirstForm.{is_first_form};
 ghost use Rattle.lint_core.specs.Fits.{query_fits};
-ghost use Rattle.worked_laws.specs.FitExamples.{number_and_text, cell, the_number, the_text, inner_number, inner_text, five, word, is_null, with_scalar, not_in, exists, two_levels_in, trues, query_where, selection, table_t, column_a, above_five, select_a, the_query, tables_of_widths, rows_of_widths};
+ghost use Rattle.worked_laws.specs.FitExamples.{number_and_text, cell, the_number, the_text, inner_number, inner_text, five, word, is_null, with_scalar, not_in, exists, two_levels_in, trues, query_where, selection, tables_of_widths, rows_of_widths};
 ghost use Rattle.lint_core.specs.Schema.{is_schema};
 ghost use Rattle.worked_laws.specs.SchemaExamples.{numbers, with_domain, with_sizes, with_key, with_foreign, with_check, comparison, each_form};
 
@@ -154,31 +152,6 @@ pub fn worked_subqueries()
         ≡ true }
     ensures of_others { list_any (query_fits number_and_text) (map query_where (map two_levels_in (
         cell 2 1 0 ∷ inner_text ∷ []))) ≡ false }
-{}
-
-/// Which queries are of the first form: `SELECT A FROM T WHERE A > 5`, and what sets others apart
-/// from it.
-pub fn worked_first_forms()
-    ensures accepted { list_all (is_first_form (table_t column_a []))
-        (map (select_a (codes "T" ∷ [])) (
-        above_five ∷ And (above_five ∷ above_five ∷ []) ∷ [])) ≡ true }
-    ensures other_filters { list_any (is_first_form (table_t column_a []))
-        (map (select_a (codes "T" ∷ [])) (
-        comparison (the_number, Ne, five) ∷ comparison (Cell 0 0 0 (pos 1), Gt, five)
-        ∷ comparison (cell 0 0 1, Gt, five)
-        ∷ comparison (the_number, Gt, the_number) ∷ comparison (the_number, Gt, Null)
-        ∷ And (above_five ∷ []) ∷ Or (above_five ∷ above_five ∷ []) ∷ [])) ≡ false }
-    ensures other_entries { list_any (is_first_form (table_t column_a []))
-        (map (λ names. select_a names above_five) (
-        (codes "T" ∷ codes "T" ∷ []) ∷ (codes "U" ∷ []) ∷ [])) ≡ false }
-    ensures other_selections { list_any (is_first_form (table_t column_a [])) (
-        record the_query { items = starred ∷ [] } ∷ record the_query { distinct = Some nowhere }
-        ∷ record the_query { order = the_number ∷ [] } ∷ []) ≡ false }
-    ensures other_tables { list_any (λ schema. is_first_form schema the_query) (
-        table_t (record column_a { not_null = true }) []
-        ∷ table_t (record column_a { domain = Text 3 }) []
-        ∷ table_t (record column_a { name = codes "a" }) []
-        ∷ table_t column_a (record { columns = 0 ∷ [] } ∷ []) ∷ []) ≡ false }
 {}
 
 /// Databases of tables of three and of six columns: how many values their rows have.

@@ -6,11 +6,10 @@
 //! (`Examples`), `worked_asking` and `worked_refuting` the questions. `worked_schemas` and
 //! `worked_checks` list schemas that are accepted and some that are not (`SchemaExamples`),
 //! `worked_fitting`, `worked_subqueries` and `worked_databases` queries and databases that fit and
-//! some that do not, and `worked_first_forms` queries of the first form and others
-//! (`FitExamples`). `worked_formulas`, `worked_rewritings`, `worked_sentences`, `worked_counters`,
-//! `worked_steps` and `worked_wrong_steps` show formulas, sentences, counter sentences and
-//! certificates (`FormulaExamples`). `worked_standpoints` shows standpoints with the same rows,
-//! and `worked_unasked` a question that is undecided since it is not asked (`Unasked`).
+//! some that do not (`FitExamples`). `worked_formulas`, `worked_rewritings`, `worked_sentences`,
+//! `worked_counters`, `worked_steps` and `worked_wrong_steps` show formulas, sentences, counter
+//! sentences and certificates (`FormulaExamples`). `worked_standpoints` shows standpoints with the
+//! same rows, and `worked_unasked` a question that is undecided since it is not asked (`Unasked`).
 #![tactic(auto)]
 
 mod fits;
@@ -21,8 +20,7 @@ mod standpoints;
 mod unasked;
 
 pub use fits::{
-    worked_checks, worked_databases, worked_first_forms, worked_fitting, worked_schemas,
-    worked_subqueries,
+    worked_checks, worked_databases, worked_fitting, worked_schemas, worked_subqueries,
 };
 pub use formulas::{
     worked_counters, worked_formulas, worked_rewritings, worked_sentences, worked_steps,

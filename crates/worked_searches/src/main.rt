@@ -2,7 +2,7 @@
 //! program prints what it answers of each, with its budget; the gate compares that with the page
 //! `stdout`, which was written by hand.
 //!
-//! Its tests say what `judge` answers of small lists of literals.
+//! Its tests say what `judge` answers of small lists of literals, and `classes` of facts about texts.
 //!
 //! It stands beside `sqllint`, over `case_split`, and is no part of it. Nothing stands on it, and
 //! nobody has to believe it: what it calls is proved where it stands. What no clause says, that the
@@ -13,6 +13,8 @@
 mod lists;
 #[cfg(test)]
 mod literals;
+#[cfg(test)]
+mod texts;
 
 ghost use Rattle.worked_searches.specs.Lists.{IsSearchable};
 

@@ -1,5 +1,5 @@
 -- The Exists nodes of sentences in order, as the code meets them. Nothing here has to be believed: no public contract says it.
-use Rattle.std.specs.Prelude.{ℕ, suc, ◌+◌, List, [], ◌∷◌, ◌++◌, map}
+use Rattle.std.specs.Prelude.{ℕ, ◌+◌, List, [], ◌∷◌, ◌++◌}
 use Rattle.sort_formula.specs.declared.formula.Formula.{Formula, fold-Formula}
 use Rattle.sort_formula.specs.declared.formula.Formula.TheOpen.{Formula-F}
 use Rattle.sorted_skolem.specs.declared.asks.Ask.{Ask}

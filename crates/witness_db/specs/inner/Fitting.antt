@@ -1,5 +1,5 @@
 -- How the points of a counter are found: how many rows lead, and for a needless join which two rows of the entry fit.
-use Rattle.std.specs.Prelude.{◌≡◌, ℕ, suc, ◌+◌, sum, List, [], ◌∷◌, ◌++◌, length, map, remove, Option, None, slice_get, option_and_then}
+use Rattle.std.specs.Prelude.{◌≡◌, ℕ, suc, ◌+◌, sum, List, [], ◌∷◌, ◌++◌, length, map, remove, Option, None, slice_get}
 use Rattle.std.specs.Option.{option_map, option_map_or}
 use Rattle.lint_core.specs.declared.database.Points.{Points}
 use Rattle.lint_core.specs.declared.database.Points.TheVariants.{One, Two}
@@ -17,7 +17,7 @@ use Rattle.sort_formula.specs.Sides.{all_of}
 use Rattle.counter_laws.specs.Joins.{no_row_formula, without_formulas}
 use Rattle.sorted_skolem.specs.declared.term.RowTerm.{RowTerm}
 use Rattle.instantiate.specs.Plain.{plain_row}
-use Rattle.witness_db.specs.Leading.{leading_places, place_for}
+use Rattle.witness_db.specs.Leading.{leading_places, place_for, place_of}
 
 abbrev pub two_bindings : List (List ℕ) → List ℕ → Points
 two_bindings tables places = Two (binding_of tables places) (second_binding tables places)
@@ -48,7 +48,7 @@ module _ (query : Query) where
 -- the places of two rows, for which a node and the next one ask; none where there is no row of the first
 abbrev pub two_places : List RowTerm → List (Option ℕ) → ℕ → Option (ℕ × ℕ)
 two_places terms places node =
-    option_map (λ (row : ℕ). (row, place_for places (plain_row terms 0 (suc node)))) (option_and_then (λ (o : Option ℕ). o) (slice_get places (plain_row terms 0 node)))
+    option_map (λ (row : ℕ). (row, place_for places (plain_row terms 0 (suc node)))) (place_of places (plain_row terms 0 node))
 
 module _ (schema : List Table) (query : Query) where
   -- the node of the two rows of the entry, behind that which says that no row fits

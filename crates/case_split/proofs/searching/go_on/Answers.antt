@@ -15,8 +15,8 @@ use Rattle.case_split.proofs.Places.{read_at}
 use Rattle.case_split.proofs.Refuting.{split_rolls}
 use Rattle.case_split.proofs.searching.go_on.Goals as goal
 
-pub returns-in-Dead : goal.returns-in-Dead
-returns-in-Dead c =
+pub returns-in-Dead-clause-advance : goal.returns-in-Dead-clause-advance
+returns-in-Dead-clause-advance c =
     let s : State = c.spread.new.self in
     let t : State = c.need.new.self in
     let is : IsSpread c.args.clauses.now c.args.frame.now s (spread.Dead c.in-Dead.number) =

@@ -10,5 +10,5 @@ pub returns-in-Full : goal.returns-in-Full
 returns-in-Full c =
     let branch : Branch = record { choices = c.from_vec.result; assignment = c.in-Full.assignment } in
     let is : IsAdvance c.args.clauses.now c.args.frame.now c.go_on.new.state (advance.Full c.in-Full.assignment) =
-    subst (λ (x : Advance). IsAdvance c.args.clauses.now c.args.frame.now c.go_on.new.state x) c.in-Full.is c.in_ok-assignment.ensures in
+    subst (λ (x : Advance). IsAdvance c.args.clauses.now c.args.frame.now c.go_on.new.state x) c.in-Full.is c.in_ok-assignment.ensures.advance in
     first_full c.args.clauses.now c.args.frame.now c.go_on.new.state branch is.0 c.from_vec.ensures is.1

@@ -35,4 +35,4 @@ returns-clause-ready c =
     let have = subst (λ (ss : List (List Spot)). HaveBases next ss c.in_ok-bases.bases) c.as_slice-3.ensures c.in_ok-bases.ensures in
     let few : c.in_ok-offsets.offsets.total ≤ 400000 = c.if-offsets-gt400000.false in
     let low : saturated (size_before all (length order + 1)) ≤ 400000 = subst (λ (n : ℕ). n ≤ 400000) counted few in
-    is_ready _ next c.requires.order c.in_ok-outlines.ensures.closed c.in_ok-outlines.ensures.nodes c.requires.rows c.requires.few spots starts have c.in_ok-steps.ensures low
+    is_ready _ next c.requires.ordered c.in_ok-outlines.ensures.closed c.in_ok-outlines.ensures.nodes c.requires.terms_are c.requires.few_rows spots starts have c.in_ok-steps.ensures low

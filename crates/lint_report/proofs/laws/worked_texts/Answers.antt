@@ -1,7 +1,7 @@
 -- each text computes, once the query's place and the table's name are put in
 use Rattle.std.proofs.Common.{◌≡◌, ◌∙◌, sym, ap, refl, cond, true, false, nat_eq, ℕ, List, [], ◌∷◌, ◌++◌, length, if◌then◌else◌, codes, encode_utf8_all}
 use Rattle.std.specs.Fmt.{digits}
-use Rattle.lint_core.proofs.PlainWords.{plain_bytes}
+use Rattle.insert_lines.proofs.PlainWords.{plain_bytes}
 use Rattle.lint_core.specs.Database.{below}
 use Rattle.lint_core.specs.PlainWord.{is_plain_word}
 use Rattle.lint_core.specs.declared.schema.Table.{Table}

@@ -1,4 +1,5 @@
 use Rattle.std.proofs.Common.{◌≡◌, ◌+◌, ◌++◌, length, map, All}
+use Rattle.command_words.specs.Said.{asked_by}
 use Rattle.lint_core.specs.declared.run.QueryRun.{QueryRun}
 use Rattle.sql_lex.specs.Pieces.{pieces}
 use Rattle.sql_lex.specs.Rest.{rest}
@@ -10,6 +11,6 @@ abbrev pub invariant-loop-piece : goal.invariant-loop-piece
 invariant-loop-piece l = record {
   spans : map (λ (q : QueryRun). q.span) l.runs ++ rest l.piece-iterator ≡ pieces l.text;
   within : All (IsWithin (length l.text)) (rest l.piece-iterator);
-  right : AreRightFrom l.schema 1 l.text l.runs;
+  right : AreRightFrom (asked_by l.task) l.schema 1 l.text l.runs;
   count : l.number ≡ 1 + length l.runs;
 }

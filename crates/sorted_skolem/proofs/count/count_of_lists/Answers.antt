@@ -1,4 +1,4 @@
-use Rattle.std.proofs.Common.{◌≡◌, ◌∙◌, sym, ap, subst, ◌+◌, ◌*◌, ℕ, drop, get_or, arith}
+use Rattle.std.proofs.Common.{◌≡◌, ◌∙◌, sym, ap, ◌+◌, ◌*◌, drop, get_or, arith}
 use Rattle.sorted_skolem.specs.inner.Listing.{capped, tallied, lists_tallied}
 use Rattle.sorted_skolem.proofs.Steps.{get_number}
 use Rattle.sorted_skolem.proofs.Tallying.{mul_seen, lists_drop}

@@ -1,4 +1,4 @@
-use Rattle.std.proofs.Common.{◌≡◌, ◌∙◌, sym, ap, subst, ◌+◌, ◌++◌, ◌∷◌, [], ℕ, List, length, take, get_or}
+use Rattle.std.proofs.Common.{◌≡◌, ◌∙◌, sym, ap, subst, ◌+◌, ◌++◌, ◌∷◌, [], List, length, take, get_or}
 use Rattle.std.specs.List.{flat_map}
 use Rattle.sorted_skolem.specs.declared.count.Tally.{Tally}
 use Rattle.sorted_skolem.specs.declared.term.RowTerm.{RowTerm}

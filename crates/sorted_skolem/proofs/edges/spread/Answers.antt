@@ -1,9 +1,6 @@
-use Rattle.std.proofs.Common.{rules, ◌≡◌, ◌∙◌, sym, ap, subst, ℕ, ◌<◌, ◌≤◌, ◌+◌, ◌⊎◌, inl, inr, true, false, length, arith}
-use Rattle.std.proofs.lemmas.Option.{same_Some}
+use Rattle.std.proofs.Common.{rules, ◌≡◌, ◌∙◌, sym, ap, subst, ◌<◌, ◌≤◌, ◌⊎◌, inl, inr, true, false, arith}
 use Rattle.std.specs.List.{list_all}
 use Rattle.std.specs.Prelude.{Some, slice_get}
-use Rattle.lint_base.proofs.Lists.{false_unless}
-use Rattle.sorted_skolem.specs.declared.asks.Ask.{Ask}
 use Rattle.sorted_skolem.specs.inner.Waiting.{has, inserted, AreSound, IsClosedAt, missing}
 use Rattle.sorted_skolem.proofs.Living.{sound_more, missing_fewer, closed_next, closed_all}
 use Rattle.sorted_skolem.proofs.Steps.{get_some}

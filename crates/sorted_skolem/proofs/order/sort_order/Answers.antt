@@ -1,4 +1,4 @@
-use Rattle.std.proofs.Common.{rules, ◌≡◌, ◌∙◌, sym, ap, ap₂, subst, ◌<◌, ◌+◌, ◌++◌, [], ℕ, List, true, length, arith}
+use Rattle.std.proofs.Common.{rules, ◌≡◌, ◌∙◌, sym, ap, ap₂, subst, ◌<◌, ◌+◌, ◌++◌, ℕ, List, true, length, arith}
 use Rattle.std.specs.List.{filter, flat_map}
 use Rattle.std.specs.Prelude.{◌↔◌, is_none, is_some, IsSome}
 use Rattle.sorted_skolem.specs.declared.asks.Ask.{Ask}
@@ -45,8 +45,11 @@ pub returns-then-is_empty-clause-cycle : goal.returns-then-is_empty-clause-cycle
 returns-then-is_empty-clause-cycle c =
     let inv = c.loop-alloc.invariant in
     let edges = c.in_ok-edges.edges.items in
-    rounds c.args.sentences.now c.in_ok-waiting.waiting.items edges inv.known c.loop-alloc.tables.items c.loop-alloc.waiting.items inv.sorting c.in_ok-tables.tables
-    (subst (λ (es : List Edge). IsRound es c.in_ok-tables.tables) c.deref-then-is_empty.ensures.value c.in_ok-tables.ensures)
+    record {
+      closed = rounds c.args.sentences.now c.in_ok-waiting.waiting.items edges inv.known c.loop-alloc.tables.items c.loop-alloc.waiting.items inv.sorting c.in_ok-tables.tables
+          (subst (λ (es : List Edge). IsRound es c.in_ok-tables.tables) c.deref-then-is_empty.ensures.value c.in_ok-tables.ensures.closed);
+      simple = c.in_ok-tables.ensures.simple;
+    }
 
 pub loop-alloc-smaller : goal.loop-alloc-smaller
 loop-alloc-smaller c =

@@ -1,4 +1,4 @@
-use Rattle.std.proofs.Common.{◌≡◌, ◌∙◌, sym, ap, ap₂, subst, ◌+◌, ◌-◌, ◌^◌, ◌<◌, ◌≤◌, ◌++◌, [], ℕ, List, length, drop, arith}
+use Rattle.std.proofs.Common.{◌≡◌, ◌∙◌, sym, ap, ap₂, subst, ◌<◌, ◌≤◌, [], ℕ, List, length, drop, arith}
 use Rattle.sorted_skolem.specs.declared.asks.Ask.{Ask}
 use Rattle.sorted_skolem.specs.declared.term.RowTerm.{RowTerm}
 use Rattle.sorted_skolem.specs.Preorder.{outlines_of}

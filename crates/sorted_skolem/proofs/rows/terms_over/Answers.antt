@@ -1,4 +1,4 @@
-use Rattle.std.proofs.Common.{◌≡◌, ◌∙◌, sym, ap, ◌++◌, [], append-nil, true, false}
+use Rattle.std.proofs.Common.{◌∙◌, sym, ap, ◌++◌, append-nil}
 use Rattle.sorted_skolem.specs.inner.Listing.{terms_where}
 use Rattle.sorted_skolem.proofs.Steps.{get_some, flat_next}
 use Rattle.sorted_skolem.proofs.Tallying.{terms_given, terms_no, same_tables, other_tables}

@@ -22,7 +22,7 @@ returns-clause-made c =
     ∙ get_or_from_slice_get c.as_slice.result.now 0 (counter_sentence schema query question given) c.index-as_slice-0.result (ap (λ ss. slice_get ss 0) c.as_slice.ensures ∙ c.requires.counter) in
     let points = points_are schema query question c.as_slice-terms.result.now problem.rows.terms c.as_slice-2.result.now places c.in_ok-points.points c.as_slice-terms.ensures
     c.as_slice-2.ensures (c.in_ok-points.ensures schema given first) in
-    let known = c.leading_terms_refute.ensures schema problem c.requires.problem c.requires.sentences choices c.requires.full a c.requires.assignment c.requires.satisfied db places
+    let known = c.leading_terms_refute.ensures schema problem choices a c.requires.full db places
     c.in_ok-database.ensures.rows query c.requires.query question c.requires.asked given c.requires.counter in
     is_counter schema query question given problem choices a (record { database = db; points = c.in_ok-points.points }) places c.in_ok-database.ensures.rows known.0 points
 
@@ -42,7 +42,7 @@ returns-clause-refutes c =
     ∙ get_or_from_slice_get c.as_slice.result.now 0 (counter_sentence schema query question given) c.index-as_slice-0.result (ap (λ ss. slice_get ss 0) c.as_slice.ensures ∙ c.requires.counter) in
     let points = points_are schema query question c.as_slice-terms.result.now problem.rows.terms c.as_slice-2.result.now places c.in_ok-points.points c.as_slice-terms.ensures
     c.as_slice-2.ensures (c.in_ok-points.ensures schema given first) in
-    let known = c.leading_terms_refute.ensures schema problem c.requires.problem c.requires.sentences choices c.requires.full a c.requires.assignment c.requires.satisfied db places
+    let known = c.leading_terms_refute.ensures schema problem choices a c.requires.full db places
     c.in_ok-database.ensures.rows query c.requires.query question c.requires.asked given c.requires.counter in
     ap (refutes_loosely schema db query question given) points ∙ known.1
 
@@ -62,7 +62,7 @@ returns-clause-truly c =
     ∙ get_or_from_slice_get c.as_slice.result.now 0 (counter_sentence schema query question given) c.index-as_slice-0.result (ap (λ ss. slice_get ss 0) c.as_slice.ensures ∙ c.requires.counter) in
     let points = points_are schema query question c.as_slice-terms.result.now problem.rows.terms c.as_slice-2.result.now places c.in_ok-points.points c.as_slice-terms.ensures
     c.as_slice-2.ensures (c.in_ok-points.ensures schema given first) in
-    let known = c.leading_terms_refute.ensures schema problem c.requires.problem c.requires.sentences choices c.requires.full a c.requires.assignment c.requires.satisfied db places
+    let known = c.leading_terms_refute.ensures schema problem choices a c.requires.full db places
     c.in_ok-database.ensures.rows query c.requires.query question c.requires.asked given c.requires.counter in
     λ earlier. c.loosely_is_truly.ensures schema db c.in_ok-database.ensures.domains query c.requires.query question c.requires.asked earlier given c.in_ok-points.points
     ∙ (ap (refutes_loosely schema db query question given) points ∙ known.1)

@@ -16,9 +16,9 @@ returns-in-Some-last_part-clause-number c = λ tables others ways way is size.
     let one : c.body_of-body.result.now ≡ body = c.body_of-body.ensures tables body (c.formula.ensures.formula ∙ is) size in
     let two : c.in-Some.part.now ≡ f.Or (ways ++ way ∷ []) = c.in-Some.ensures.and others (f.Or (ways ++ way ∷ [])) one in
     let three : c.in-Some-last_part.way.now ≡ way = c.in-Some-last_part.ensures.or ways way two in
-    left (nodes c.args.sentence.now) c.count_nodes.result c.saturating_sub.result (c.args.count + 2 + sum (map nodes others) + sum (map nodes ways)) (nodes way) c.nodes.result
+    left (nodes c.args.sentence.now) c.nodes-own.result c.saturating_sub.result (c.args.count + 2 + sum (map nodes others) + sum (map nodes ways)) (nodes way) c.nodes-all.result
     c.requires
     (ap nodes is ∙ (nodes_before tables others ways way ∙ ap (λ n. n + 2 + sum (map nodes others) + sum (map nodes ways) + nodes way) size))
-    (c.count_nodes.ensures ∙ ap (λ (g : Formula). min (nodes g) (2 ^ 64 - 1)) three)
-    c.nodes.ensures
+    (c.nodes-own.ensures ∙ ap (λ (g : Formula). min (nodes g) (2 ^ 64 - 1)) three)
+    c.nodes-all.ensures
     c.saturating_sub.ensures

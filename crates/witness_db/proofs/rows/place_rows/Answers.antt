@@ -15,7 +15,7 @@ firsts-requires c =
     let n = length problem.rows.terms in
     let count : length c.as_slice-2.result.now ≡ n =
     ap length (c.as_slice-2.ensures ∙ c.in_ok-present.ensures) ∙ (length-map (below n) (is_present problem c.as_slice.result.now) ∙ length_below n) in
-    let few = c.requires.few in
+    let few = c.requires.limits.few_rows in
     omega arith
 
 pub returns : goal.returns
@@ -28,7 +28,7 @@ returns c =
     let count : length c.as_slice-3.result.now ≡ length problem.frame.domains =
     ap length (c.as_slice-3.ensures ∙ c.tables.ensures.tables) ∙ sym (frame_count schema problem c.requires.problem) in
     is_database schema problem c.requires.problem c.args.branch.now.choices a c.requires.assignment c.as_slice-2.result.now firsts c.in_ok-places_of.field-0 db
-    (frame_range problem.frame c.requires.frame)
+    (frame_range problem.frame c.requires.limits.frame_is)
     (c.as_slice-2.ensures ∙ (c.in_ok-present.ensures ∙ ap (λ (choices : List (Option ℕ)). map (is_present problem choices) (below (length problem.rows.terms))) c.as_slice.ensures))
     (c.as_slice-firsts.ensures ∙ c.in_ok-firsts.ensures)
     (c.in_ok-places_of.ensures ∙ ap (λ (ts : List ℕ). map (place_at ts firsts) (below (length ts))) c.as_slice-tables.ensures)

@@ -1,0 +1,4 @@
+pub mod OneRows
+pub mod Named
+pub mod Lines
+pub mod Accepted

@@ -1,0 +1,4 @@
+pub mod Named
+pub mod Checks
+pub mod AcceptedLines
+pub mod inner

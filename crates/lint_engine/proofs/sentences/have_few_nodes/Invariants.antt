@@ -1,0 +1,7 @@
+use Rattle.std.proofs.Common.{◌<◌, ◌^◌, take}
+use Rattle.std.specs.Prelude.{All}
+use Rattle.sort_formula.specs.Nodes.{nodes}
+use Rattle.lint_engine.proofs.sentences.have_few_nodes.Given as goal
+
+abbrev pub invariant-loop-sentence : goal.invariant-loop-sentence
+invariant-loop-sentence l = All (λ s. nodes s < 2 ^ 32) (take l.sentence-index l.sentences)

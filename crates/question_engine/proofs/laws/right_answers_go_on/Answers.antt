@@ -1,5 +1,0 @@
-use Rattle.question_engine.proofs.Going.{right_next}
-use Rattle.question_engine.proofs.laws.right_answers_go_on.Goals as goal
-
-pub returns : goal.returns
-returns c = right_next

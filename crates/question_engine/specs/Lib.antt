@@ -1,6 +1,0 @@
-pub mod JudgedBy
-pub mod Limits
-pub mod Asking
-pub mod Earlier
-pub mod AskingAll
-pub mod inner

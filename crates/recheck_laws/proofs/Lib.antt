@@ -1,0 +1,4 @@
+pub mod Members
+pub mod SameReading
+pub mod Placed
+pub mod Together

@@ -1,0 +1,1 @@
+SELECT name FROM staff WHERE salary > 50000;

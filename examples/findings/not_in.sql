@@ -1,0 +1,1 @@
+SELECT * FROM staff WHERE id NOT IN (SELECT boss FROM staff);

@@ -1,3 +1,0 @@
-SELECT number
-FROM employee
-WHERE salary > 5000 OR grade >= 3;
