@@ -6,7 +6,7 @@
 //! certificate shows.
 //!
 //! Of wrong bodies the contracts let through only those that answer `NoMemory` though there is
-//! memory, since no clause can say when memory ends: the cases of `worked_cases` show that the
+//! memory, since no clause can say when memory ends: the cases of `worked_meaning` show that the
 //! axioms are made.
 #![tactic(auto)]
 

@@ -11,8 +11,8 @@
 //! `worked_laws`.
 //!
 //! Of wrong bodies the contracts let through only copies that answer `NoMemory` though there is
-//! memory, since no clause can say when memory ends: the cases of `worked_cases` show that copies
-//! are made.
+//! memory, since no clause can say when memory ends: the cases of `worked_meaning` show that
+//! copies are made.
 #![tactic(auto)]
 
 mod asked;

@@ -17,7 +17,7 @@
 //!
 //! Of wrong bodies the contracts let through only negations, renamings and copies that answer
 //! `NoMemory` though there is memory, since no clause can say when memory ends: the cases of
-//! `worked_cases` show that formulas are made.
+//! `worked_meaning` show that formulas are made.
 #![tactic(auto)]
 
 mod building;

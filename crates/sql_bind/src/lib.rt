@@ -10,8 +10,8 @@
 //! is broken, unless memory ran out.
 //!
 //! Of wrong bodies the contracts let through only those that answer `NoMemory` though there is
-//! memory, since no clause can say when memory ends: the cases of `worked_cases` show that trees
-//! are bound.
+//! memory, since no clause can say when memory ends: the cases of `worked_reading` show that
+//! trees are bound.
 #![tactic(auto)]
 
 mod bound;

@@ -7,8 +7,8 @@
 //!
 //! Of wrong bodies the contracts let through only those that answer `NoMemory` though there is
 //! memory, since no clause can say when memory ends, and private ones that answer of an empty
-//! text, or of the byte 0, at once what the real one answers there: the cases of `worked_cases`
-//! show that texts are read.
+//! text, or of the byte 0, at once what the real one answers there: the cases of
+//! `worked_reading` show that texts are read.
 #![tactic(auto)]
 
 mod bytes;

@@ -9,7 +9,7 @@
 //!
 //! Of wrong bodies the contracts let through only those that answer `NoMemory` though there is
 //! memory, also private ones that need none, since no clause can say when memory ends: the cases
-//! of `worked_cases` show that there are answers.
+//! of `worked_meaning` show that there are answers.
 #![tactic(auto)]
 
 mod clauses;

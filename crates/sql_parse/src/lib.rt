@@ -11,7 +11,7 @@
 //!
 //! Of wrong bodies the contracts let through only those that answer `NoMemory` though there is
 //! memory, also private ones that take none, since no clause can say when memory ends: the cases
-//! of `worked_cases` show that texts are read.
+//! of `worked_reading` show that texts are read.
 #![tactic(auto)]
 
 mod front;

@@ -7,7 +7,7 @@
 //!
 //! Of wrong bodies the contracts let through only those that answer `NoMemory` though there is
 //! memory, since no clause can say when memory ends: the runs of `sqllint` and the cases of
-//! `worked_cases` show that texts are read.
+//! `worked_runs` show that texts are read.
 #![tactic(auto)]
 
 mod reading;

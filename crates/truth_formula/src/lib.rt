@@ -7,8 +7,8 @@
 //! `truth_laws` say what they are for, and that they fit the schema.
 //!
 //! Of wrong bodies the contracts let through only those that answer `NoMemory` though there is
-//! memory, since no clause can say when memory ends: the cases of `worked_cases` show that both
-//! formulas are made.
+//! memory, since no clause can say when memory ends: the cases of `worked_meaning` show that
+//! both formulas are made.
 #![tactic(auto)]
 
 mod sides;
