@@ -12,3 +12,4 @@ pub mod Splitting
 pub mod Literals
 pub mod Going
 pub mod Pairs
+pub mod Weights

@@ -7,13 +7,15 @@ ghost use Rattle.case_split.specs.inner.Entries.{IsReady, IsSpreading};
 ghost use Rattle.case_split.specs.inner.Kept.{IsKept};
 ghost use Rattle.case_split.specs.inner.Steps.{IsAdvance};
 
-use crate::state::{Closing, Entry, Spread, State, give_up_all};
+use crate::giving_up::give_up_all;
+use crate::state::{Closing, Entry, Spread, State};
 use crate::taking::{Settled, settle};
 use crate::tree::{Branch, CaseTree, Found};
 use crate::trying::is_kept;
 use ground_theory::{Assignment, Clause, Frame};
 use lint_base::{Items, NoMemory};
 use std::alloc::Global;
+use std::mem;
 
 /// What the search comes to next.
 #[derive(Drop)]
@@ -106,12 +108,57 @@ fn go_on(
 }
 
 /// Gives up the closed trees of the ways before those taken.
-fn give_up_entries(alloc: Global, entries: Vec<Entry>) -> Result<(), NoMemory> {
+fn give_up_entries(alloc: Global, entries: Vec<Entry>) {
     let mut entries = entries;
     while let Some(entry) = entries.pop() {
-        give_up_all(alloc, entry.cases)?;
+        give_up_all(alloc, entry.cases);
     }
-    Ok(())
+}
+
+/// What `search` answers. Trees may be left in the state.
+fn look_for(
+    alloc: Global,
+    clauses: &[Clause],
+    frame: &Frame,
+    budget: u64,
+    state: &mut State,
+) -> Result<Found, NoMemory>
+    requires frame { is_frame frame.now ≡ true }
+    requires fitting { are_fit frame.now clauses.now ≡ true }
+    requires count { length clauses.now ≤ 400000 }
+    requires ways { have_few_ways clauses.now ≡ true }
+    requires ready { IsReady clauses.now frame.now state.old 0 }
+    requires tried { state.old.tried ≡ 0 }
+    ensures { IfOk result (λ found. IsAnswer clauses.now frame.now budget found) }
+{
+    let mut kept = None;
+    let mut from = 0;
+    // Each round but the last comes to a split, or takes the next way of one that was come to: so
+    // there are at most as many rounds as these splits have ways, all added, and one more.
+    for round in 0..u64::MAX {
+        match go_on(alloc, clauses, frame, state, &mut kept, from)? {
+            Advance::Full(assignment) => {
+                let chosen = mem::replace(&mut state.chosen, Vec::new(alloc));
+                return Ok(Found::Open(Branch {
+                    choices: Items::from_vec(chosen),
+                    assignment,
+                }));
+            }
+            Advance::Conflict(tree) => match state.close(alloc, clauses, frame, tree)? {
+                Closing::Closed(tree) => return Ok(Found::Closed(tree)),
+                Closing::Next(clause) => from = clause + 1,
+            },
+            Advance::Fork(clause) => {
+                state.split(alloc, clauses, frame, clause)?;
+                if state.tried > budget {
+                    return Ok(Found::Spent { tried: state.tried });
+                }
+                from = clause + 1;
+            }
+        }
+    }
+    // So many rounds are never come to.
+    Err(NoMemory)
 }
 
 /// The first full case, a closed tree, or the number of splits that were come to where it is above
@@ -129,37 +176,7 @@ pub fn search(
     ensures { IfOk result (λ found. IsAnswer clauses.now frame.now budget found) }
 {
     let mut state = State::new(alloc, clauses, frame)?;
-    let mut kept = None;
-    let mut from = 0;
-    for round in 0..u64::MAX {
-        match go_on(alloc, clauses, frame, &mut state, &mut kept, from)? {
-            Advance::Full(assignment) => {
-                let State {
-                    chosen,
-                    entries,
-                    ..
-                } = state;
-                give_up_entries(alloc, entries)?;
-                return Ok(Found::Open(Branch {
-                    choices: Items::from_vec(chosen),
-                    assignment,
-                }));
-            }
-            Advance::Conflict(tree) => match state.close(alloc, clauses, frame, tree)? {
-                Closing::Closed(tree) => return Ok(Found::Closed(tree)),
-                Closing::Next(clause) => from = clause + 1,
-            },
-            Advance::Fork(clause) => {
-                state.split(alloc, clauses, frame, clause)?;
-                if state.tried > budget {
-                    let tried = state.tried;
-                    give_up_entries(alloc, state.entries)?;
-                    return Ok(Found::Spent { tried });
-                }
-                from = clause + 1;
-            }
-        }
-    }
-    // So many rounds are never come to.
-    Err(NoMemory)
+    let found = look_for(alloc, clauses, frame, budget, &mut state);
+    give_up_entries(alloc, state.entries);
+    found
 }

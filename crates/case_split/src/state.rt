@@ -13,7 +13,7 @@ ghost use Rattle.case_split.specs.inner.Entries.{IsRefuted, Refutes, needed_of, 
 ghost use Rattle.case_split.specs.inner.Entries.{mark_all};
 ghost use Rattle.case_split.specs.inner.Steps.{IsLook, IsSpread, IsLeft, IsClosing};
 
-use crate::giving_up::give_up;
+use crate::giving_up::{give_up, give_up_all};
 use crate::tree::CaseTree;
 use ground_theory::{Clause, Frame, Guard};
 use lint_base::{Items, NoMemory};
@@ -77,13 +77,23 @@ fn are_met(chosen: &[Option<u32>], guards: &[Guard]) -> bool
     guards.iter().all(|guard| chooses(chosen, *guard))
 }
 
-/// Gives up the trees, one after the other.
-pub(crate) fn give_up_all(alloc: Global, trees: Items<CaseTree>) -> Result<(), NoMemory> {
-    let mut trees = trees.into_vec();
-    while let Some(tree) = trees.pop() {
-        give_up(alloc, tree)?;
+/// The trees with one more. Without memory all of them are given up.
+fn with_case(
+    alloc: Global,
+    cases: Items<CaseTree>,
+    tree: CaseTree,
+) -> Result<Items<CaseTree>, NoMemory>
+    ensures { IfOk result (λ more. more ≡ cases ++ tree ∷ []) }
+{
+    let mut cases = cases.into_vec();
+    match cases.push(tree) {
+        Ok(()) => Ok(Items::from_vec(cases)),
+        Err(refused) => {
+            give_up(alloc, refused.value);
+            give_up_all(alloc, Items::from_vec(cases));
+            Err(NoMemory)
+        }
     }
-    Ok(())
 }
 
 impl State {
@@ -100,9 +110,11 @@ impl State {
         })
     }
 
-    /// Takes a way of a clause, behind the closed trees of its ways before that one.
+    /// Takes a way of a clause, behind the closed trees of its ways before that one. Without
+    /// memory they are given up.
     pub(crate) fn take(
         &mut self,
+        alloc: Global,
         clause: usize,
         way: u32,
         cases: Items<CaseTree>,
@@ -119,8 +131,13 @@ impl State {
     {
         self.chosen[clause] = Some(way);
         self.needed[clause] = false;
-        self.entries.push(Entry { clause, way, cases })?;
-        Ok(())
+        match self.entries.push(Entry { clause, way, cases }) {
+            Ok(()) => Ok(()),
+            Err(refused) => {
+                give_up_all(alloc, refused.value.cases);
+                Err(NoMemory)
+            }
+        }
     }
 
     /// Says that closed trees need the guards.
@@ -158,7 +175,7 @@ impl State {
         match clause.ways.as_slice().len() {
             0 => Ok(Look::Dead),
             1 => {
-                self.take(number, 0, Items::new(alloc))?;
+                self.take(alloc, number, 0, Items::new(alloc))?;
                 Ok(Look::On(fork))
             }
             _ => Ok(Look::On(fork.or(Some(number)))),
@@ -209,14 +226,13 @@ impl State {
         let Entry { clause, way, cases } = entry;
         self.chosen[clause] = None;
         if !self.needed[clause] {
-            give_up_all(alloc, cases)?;
+            give_up_all(alloc, cases);
             return Ok(Closing::Closed(tree));
         }
-        let mut cases = cases;
-        cases.push(tree)?;
+        let cases = with_case(alloc, cases, tree)?;
         let next = way + 1;
         if (next as usize) < clauses[clause].ways.as_slice().len() {
-            self.take(clause, next, cases)?;
+            self.take(alloc, clause, next, cases)?;
             return Ok(Closing::Next(clause));
         }
         self.need(clauses[clause].guards.as_slice());
@@ -271,7 +287,7 @@ impl State {
             return Err(NoMemory);
         }
         self.tried += 1;
-        self.take(number, 0, Items::new(alloc))?;
+        self.take(alloc, number, 0, Items::new(alloc))?;
         Ok(())
     }
 }

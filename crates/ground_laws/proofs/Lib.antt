@@ -3,3 +3,4 @@ pub mod Standing
 pub mod Literals
 pub mod Searched
 pub mod Orders
+pub mod Counted

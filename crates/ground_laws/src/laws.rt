@@ -1,16 +1,21 @@
 //! What `search` asks of a problem, and that a problem has one order. The functions call another
 //! law or do nothing: each contract is a law about the definitions in the `specs/` of the crates
 //! below.
-ghost use Rattle.std.specs.Prelude.{◌≡◌, ℕ, true, List, Some, slice_get};
+ghost use Rattle.std.specs.Prelude.{◌≡◌, ℕ, ◌≤◌, true, List, Some, slice_get};
 ghost use Rattle.lint_core.specs.declared.schema.Table.{Table};
 ghost use Rattle.sort_formula.specs.declared.formula.Formula.{Formula};
 ghost use Rattle.sort_formula.specs.Sentences.{is_sentence};
 ghost use Rattle.sorted_skolem.specs.Graph.{IsOrder};
+ghost use Rattle.ground_theory.specs.declared.literal.Clause.{Clause};
+ghost use Rattle.ground_theory.specs.declared.literal.Frame.{Frame};
 ghost use Rattle.ground_theory.specs.Forward.{are_forward};
+ghost use Rattle.case_split.specs.Answers.{HasSpent};
+ghost use Rattle.case_split.specs.Cases.{HasCounted};
 ghost use Rattle.case_split.specs.Fitting.{are_fit, have_few_ways};
 ghost use Rattle.ground_theory.specs.Judgeable.{is_frame};
 ghost use Rattle.instantiate.specs.declared.problem.Problem.{Problem};
 ghost use Rattle.instantiate.specs.Cases.{IsProblem};
+ghost use Rattle.ground_laws.specs.Counting.{cases_at_most};
 ghost use Rattle.ground_laws.specs.Grounded.{IsGrounded};
 
 use instantiate::clauses_hang_together;
@@ -45,4 +50,14 @@ pub fn guards_are_earlier()
 pub fn sentences_have_one_order()
     ensures { (sentences : List Formula) (order other : List ℕ)
         → IsOrder sentences order → IsOrder sentences other → order ≡ other }
+{}
+
+/// At most as many cases of a list of clauses are counted as one more than there are clauses,
+/// times the product of their numbers of ways, a clause without ways counted as one. So with such
+/// a budget `search` never answers that it is spent.
+pub fn few_cases_are_counted()
+    ensures at_most { (clauses : List Clause) (frame : Frame) (count : ℕ)
+        → HasCounted clauses frame count → count ≤ cases_at_most clauses }
+    ensures enough { (clauses : List Clause) (frame : Frame) (budget tried : ℕ)
+        → cases_at_most clauses ≤ budget → HasSpent clauses frame budget tried → ⊥ }
 {}

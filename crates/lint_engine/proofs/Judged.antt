@@ -30,6 +30,7 @@ use Rattle.proof_cert.specs.Steps.{AreSteps}
 use Rattle.lint_engine.specs.Asking.{InOrder, IsWithinLimits, IsSpent}
 use Rattle.lint_engine.specs.JudgedBy.{sentences_for, rows_for, clauses_for, frame_for}
 use Rattle.lint_engine.specs.Limits.{HaveFewNodes, AreFew}
+use Rattle.lint_engine.specs.Settled.{with_axioms, HaveOrder, AreSpent, judged}
 use Rattle.lint_engine.specs.inner.Problems.{IsReady}
 
 abbrev said_by : Axiom → Formula
@@ -63,53 +64,32 @@ module _ (schema : List Table) (ss : List Formula) (problem : Problem) (ready : 
     clauses = subst (λ (cs : List Clause). length cs ≤ 400000) clauses_are ready.few_clauses;
   }
 
--- ---- what is answered of a question
+-- ---- what comes of a problem whose first sentence this is
 
-module _ (schema : List Table) (query : Query) (question : Question) (given : Value) (problem : Problem) (ready : IsReady schema (sentences_for schema query question given) problem) where
+module _ (schema : List Table) (sentence : Formula) (problem : Problem) (ready : IsReady schema (with_axioms schema sentence) problem) where
   abbrev ss : List Formula
-  ss = sentences_for schema query question given
+  ss = with_axioms schema sentence
 
-  pub limits : InOrder schema query question given (IsWithinLimits schema query question given)
-  limits = record {
-    acyclic = ready.acyclic;
-    order = problem.order.tables;
-    is_order = order_is schema ss problem ready;
-    so = are_few schema ss problem ready;
-  }
-
-  pub spent : (budget tried : ℕ) → HasSpent problem.clauses problem.frame budget tried → InOrder schema query question given (IsSpent schema query question given budget tried)
-  spent budget tried is = record {
-    acyclic = ready.acyclic;
-    order = problem.order.tables;
-    is_order = order_is schema ss problem ready;
-    so = record {
-      within = are_few schema ss problem ready;
-      spent =
-          subst (λ (frame : Frame). HasSpent (clauses_for ss problem.order.tables) frame budget tried) (frame_is schema ss problem ready)
-          (subst (λ (cs : List Clause). HasSpent cs problem.frame budget tried) (clauses_are schema ss problem ready) is);
-    };
-  }
-
-  pub counter_first : slice_get problem.sentences 0 ≡ Some (counter_sentence schema query question given)
-  counter_first = ap (λ (xs : List Formula). slice_get xs 0) ready.sentences_are
+  pub stands_first : slice_get problem.sentences 0 ≡ Some sentence
+  stands_first = ap (λ (xs : List Formula). slice_get xs 0) ready.sentences_are
 
   -- each axiom is among the sentences
-  pub axioms_there : All (λ (x : Axiom). Contains problem.sentences x.sentence) (axioms schema)
-  axioms_there i d low =
+  pub axioms_stand : All (λ (x : Axiom). Contains problem.sentences x.sentence) (axioms schema)
+  axioms_stand i d low =
       let xs = axioms schema in
       let x : Axiom = get_or xs i d in
       let at : slice_get (map said_by xs) i ≡ Some x.sentence = slice_get-map said_by xs i ∙ ap (option_map said_by) (slice_get-get_or xs i d low) in
       let among : Contains (map said_by xs) x.sentence = (i, slice_get_within (map said_by xs) i x.sentence at, get_or_from_slice_get (map said_by xs) i x.sentence x.sentence at) in
       subst (λ (ys : List Formula). Contains ys x.sentence) (sym ready.sentences_are)
-      (Contains-append_right (counter_sentence schema query question given ∷ []) (map said_by xs) x.sentence among)
+      (Contains-append_right (sentence ∷ []) (map said_by xs) x.sentence among)
 
   -- ---- the facts of a certificate
 
   abbrev facts : List Fact
-  facts = (first_branch schema (counter_sentence schema query question given)).facts
+  facts = (first_branch schema sentence).facts
 
   facts_are : facts ≡ map (fact_of []) ss
-  facts_are = ap (λ (fs : List Fact). fact_of [] (counter_sentence schema query question given) ∷ fs) (twice (axioms schema))
+  facts_are = ap (λ (fs : List Fact). fact_of [] sentence ∷ fs) (twice (axioms schema))
     where
       twice : (xs : List Axiom) → map (λ (a : Axiom). fact_of [] a.sentence) xs ≡ map (fact_of []) (map (λ (a : Axiom). a.sentence) xs)
       twice [] = refl
@@ -134,7 +114,73 @@ module _ (schema : List Table) (query : Query) (question : Question) (given : Va
       ∙ (ap (slice_get (below (suc (length ss)))) many
       ∙ (below_at (suc (length ss)) (length ss) (omega arith) ∙ ap Some (sym so_many)))
 
-  pub accepted : (steps : List Step) → AreSteps problem steps → accepts schema (counter_sentence schema query question given) steps ≡ true
-  accepted steps close =
+  pub are_accepted : (steps : List Step) → AreSteps problem steps → accepts schema sentence steps ≡ true
+  are_accepted steps close =
       ap (λ (o : Option (List Branch)). option_map_or are_closed o false)
       (close schema (sym (ap (λ (frame : Frame). frame.domains) ready.grounded.problem_is.frame)) facts (record { sentences = fact_at; as_many = last_is }))
+
+-- ---- what is answered of a question
+
+module _ (schema : List Table) (query : Query) (question : Question) (given : Value) (problem : Problem) (ready : IsReady schema (sentences_for schema query question given) problem) where
+  abbrev own : List Formula
+  own = sentences_for schema query question given
+
+  pub limits : InOrder schema query question given (IsWithinLimits schema query question given)
+  limits = record {
+    acyclic = ready.acyclic;
+    order = problem.order.tables;
+    is_order = order_is schema own problem ready;
+    so = are_few schema own problem ready;
+  }
+
+  pub spent : (budget tried : ℕ) → HasSpent problem.clauses problem.frame budget tried → InOrder schema query question given (IsSpent schema query question given budget tried)
+  spent budget tried is = record {
+    acyclic = ready.acyclic;
+    order = problem.order.tables;
+    is_order = order_is schema own problem ready;
+    so = record {
+      within = are_few schema own problem ready;
+      spent =
+          subst (λ (frame : Frame). HasSpent (clauses_for own problem.order.tables) frame budget tried) (frame_is schema own problem ready)
+          (subst (λ (cs : List Clause). HasSpent cs problem.frame budget tried) (clauses_are schema own problem ready) is);
+    };
+  }
+
+  abbrev first : Formula
+  first = counter_sentence schema query question given
+
+  pub counter_first : slice_get problem.sentences 0 ≡ Some first
+  counter_first = stands_first schema first problem ready
+
+  pub axioms_there : All (λ (x : Axiom). Contains problem.sentences x.sentence) (axioms schema)
+  axioms_there = axioms_stand schema first problem ready
+
+  pub accepted : (steps : List Step) → AreSteps problem steps → accepts schema first steps ≡ true
+  accepted steps close = are_accepted schema first problem ready steps close
+
+-- ---- what is answered of an Or
+
+module _ (schema : List Table) (parts : List Formula) (problem : Problem) (ready : IsReady schema (judged schema parts) problem) where
+  abbrev all : List Formula
+  all = judged schema parts
+
+  pub parts_limits : HaveOrder all (AreFew all)
+  parts_limits = record {
+    acyclic = ready.acyclic;
+    order = problem.order.tables;
+    is_order = order_is schema all problem ready;
+    so = are_few schema all problem ready;
+  }
+
+  pub parts_spent : (budget tried : ℕ) → HasSpent problem.clauses problem.frame budget tried → HaveOrder all (AreSpent schema parts budget tried)
+  parts_spent budget tried is = record {
+    acyclic = ready.acyclic;
+    order = problem.order.tables;
+    is_order = order_is schema all problem ready;
+    so = record {
+      within = are_few schema all problem ready;
+      spent =
+          subst (λ (frame : Frame). HasSpent (clauses_for all problem.order.tables) frame budget tried) (frame_is schema all problem ready)
+          (subst (λ (cs : List Clause). HasSpent cs problem.frame budget tried) (clauses_are schema all problem ready) is);
+    };
+  }

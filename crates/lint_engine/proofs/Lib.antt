@@ -7,6 +7,7 @@ pub mod Judged
 pub mod Listed
 pub mod Looking
 pub mod Plain
+pub mod OrParts
 pub mod Turns
 pub mod Passed
 pub mod Ready

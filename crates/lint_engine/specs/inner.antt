@@ -1,4 +1,5 @@
 pub mod Problems
 pub mod Sought
 pub mod Plain
+pub mod Parts
 pub mod Turns

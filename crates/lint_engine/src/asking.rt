@@ -33,7 +33,34 @@ struct Task<'a> {
     numbers: (u32, u32),
 }
 
-/// The certificate of a closed tree.
+/// The certificate that a closed tree shows.
+fn certificate_of(
+    alloc: Global,
+    task: &Task,
+    problem: &Problem,
+    tree: &CaseTree,
+) -> Result<Cert, NoMemory>
+    requires fits { query_fits task.now.schema.now task.now.query.now ≡ true }
+    requires asked { is_asked task.now.schema.now task.now.query.now task.now.question.now
+        ≡ true }
+    requires ready { IsReady task.now.schema.now (sentences_for task.now.schema.now
+        task.now.query.now task.now.question.now task.now.given.now) problem.now }
+    requires closed { is_closed problem.now.clauses problem.now.frame tree.now [] ≡ true }
+    ensures certificate { IfOk result (λ cert. IsCertificate task.now.schema.now
+        task.now.query.now task.now.question.now task.now.given.now
+        (record { query = task.now.numbers.0; question = task.now.numbers.1 }) cert) }
+    ensures holds { OnOk result (HoldsWhereEarlierHold task.now.schema.now task.now.query.now
+        task.now.question.now task.now.given.now) }
+{
+    accepted_questions_hold();
+    task.schema.tables();
+    let value = task.given.copy(alloc)?;
+    let (query, question) = task.numbers;
+    let cert = from_tree(alloc, tree, problem, query, question, value)?;
+    Ok(cert)
+}
+
+/// The certificate of a closed tree, which is given up.
 fn certified(
     alloc: Global,
     task: &Task,
@@ -52,13 +79,9 @@ fn certified(
     ensures holds { OnOk result (HoldsWhereEarlierHold task.now.schema.now task.now.query.now
         task.now.question.now task.now.given.now) }
 {
-    accepted_questions_hold();
-    task.schema.tables();
-    let value = task.given.copy(alloc)?;
-    let (query, question) = task.numbers;
-    let cert = from_tree(alloc, &tree, problem, query, question, value)?;
-    give_up(alloc, tree)?;
-    Ok(cert)
+    let cert = certificate_of(alloc, task, problem, &tree);
+    give_up(alloc, tree);
+    cert
 }
 
 /// The database of the first full case.
@@ -96,7 +119,7 @@ fn refuted(
 }
 
 /// Searches the cases of a problem over the schema.
-fn searched(
+pub(crate) fn searched(
     alloc: Global,
     schema: &Schema,
     problem: &Problem,

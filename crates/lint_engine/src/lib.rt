@@ -8,10 +8,14 @@
 //! their order (`asking_all`): a question is blocked or moot exactly where the answers before it
 //! say so (`earlier`), a constant column is asked of with its value in E1's database (`values`).
 //!
-//! The layer above may use `ask` and `ask_all`, and cite the laws. Of `specs/` a reader must
-//! believe `JudgedBy` (which sentences, rows and clauses a question is judged by), `Limits` (how
-//! much is judged), `Asking` (which answers to one question are right), `Earlier` (what earlier
-//! answers decide of a later question) and `AskingAll` (which answers to all questions are right).
+//! `ask_sentence` judges an Or of sentences in place of a question (`settling`, `parts`): whether a
+//! part of it can hold in a database that meets the schema.
+//!
+//! The layer above may use these calls, and cite the laws. Of `specs/` a reader must believe
+//! `JudgedBy` (which sentences, rows and clauses a question is judged by), `Limits` (how much is
+//! judged), `Asking` (which answers to one question are right), `Earlier` (what earlier answers
+//! decide of a later question), `AskingAll` (which answers to all questions are right) and
+//! `Settled` (which answers to an Or of sentences are right).
 //! `specs/inner` is cited by private clauses alone.
 //!
 //! Of wrong bodies the contracts let through only those that answer `NoMemory` though there is
@@ -22,8 +26,10 @@ mod asking;
 mod asking_all;
 mod earlier;
 mod laws;
+mod parts;
 mod problem;
 mod sentences;
+mod settling;
 mod values;
 
 pub use asking::ask;
@@ -33,3 +39,4 @@ pub use laws::{
     databases_of_the_schema_fit, earlier_questions_hold, loose_points_refute, right_answers_go_on,
     worked_earlier_answers,
 };
+pub use settling::{Settled, ask_sentence};

@@ -28,7 +28,7 @@ fn push_sentences(axioms: Vec<Axiom>, sentences: &mut Items<Sentence>) -> Result
 }
 
 /// Adds the axioms of the schema.
-fn push_axioms(
+pub(crate) fn push_axioms(
     alloc: Global,
     schema: &Schema,
     sentences: &mut Items<Sentence>,

@@ -10,7 +10,7 @@ use Rattle.sort_formula.specs.Facts.{Fact, Branch}
 use Rattle.formula_laws.proofs.Composing.{after_append}
 use Rattle.case_split.specs.declared.tree.CaseTree.{CaseTree}
 use Rattle.case_split.specs.Trees.{is_closed}
-use Rattle.case_split.specs.inner.Sizes.{size, size_of_all}
+use Rattle.proof_cert.specs.inner.Sizes.{size, size_of_all}
 use Rattle.instantiate.specs.declared.problem.Problem.{Problem}
 use Rattle.instantiate.specs.Ground.{domains_of}
 use Rattle.proof_cert.specs.Steps.{AreSteps}

@@ -25,7 +25,7 @@ use Rattle.case_split.specs.declared.tree.CaseTree.{CaseTree, fold-roll-CaseTree
 use Rattle.case_split.specs.declared.tree.CaseTree.TheOpen.{CaseTree-F}
 use Rattle.case_split.specs.declared.tree.CaseTree.TheVariants as variant
 use Rattle.case_split.specs.Trees.{is_same_guard, is_among, are_among, literal_at, literals_at, Meaning, ways_closed, split_closed, closed_step, is_closed}
-use Rattle.case_split.specs.inner.Sizes.{size, size_step, size_of_all}
+use Rattle.proof_cert.specs.inner.Sizes.{size, size_step, size_of_all}
 use Rattle.case_split.proofs.Closed.{same_guard, among_passes}
 use Rattle.case_split.proofs.Refuting.{split_rolls, leaf_rolls, same_as_itself}
 use Rattle.instantiate.specs.declared.problem.Problem.{Problem}

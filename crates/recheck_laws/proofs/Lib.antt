@@ -2,3 +2,4 @@ pub mod Members
 pub mod SameReading
 pub mod Placed
 pub mod Together
+pub mod Unhindered

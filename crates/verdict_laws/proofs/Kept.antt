@@ -1,8 +1,8 @@
 -- Right answers keep their word.
-use Rattle.std.proofs.Common.{◌≡◌, ◌∙◌, ap, refl, sym, subst, ℕ, ◌+◌, Bool, true, false, List, [], ◌∷◌, ◌++◌, take, arith}
+use Rattle.std.proofs.Common.{◌≡◌, ◌∙◌, ap, refl, sym, subst, ℕ, ◌+◌, Bool, true, false, List, [], ◌∷◌, take, arith}
 use Rattle.std.proofs.lemmas.List.Elements.{All-cons, All-head, All-nil, All-rest}
 use Rattle.std.proofs.lemmas.Option.{same_Some}
-use Rattle.std.specs.Prelude.{All, Option, Some, None, slice_get}
+use Rattle.std.specs.Prelude.{Option, Some, None, slice_get}
 use Rattle.std.specs.Option.{option_map_or}
 use Rattle.lint_core.specs.declared.certificate.Cert.{Cert}
 use Rattle.lint_core.specs.declared.database.Binding.{Binding}
@@ -34,7 +34,7 @@ use Rattle.lint_engine.proofs.Causes.{never_large}
 use Rattle.lint_engine.proofs.ConstantValue.{constant_value}
 use Rattle.lint_engine.proofs.EarlierHold.{passes}
 use Rattle.lint_engine.proofs.Going.{placed}
-use Rattle.verdict_laws.specs.Headline.{is_put, is_verdict, IsProvedAlways, IsShownNotAlways, IsDecidable, IsAnsweredAt, given_at, Headline}
+use Rattle.verdict_laws.specs.Headline.{is_put, is_verdict, IsProvedAlways, IsShownNotAlways, IsDecidable, IsAnsweredAt, Headline}
 use Rattle.verdict_laws.proofs.Fronts.{answer_of, answered_front, right_front}
 use Rattle.verdict_laws.proofs.Refuted.{has_other, has_this, never_holds}
 
@@ -185,6 +185,22 @@ module _ (schema : List Table) (query : Query) (number budget : ℕ) (answers : 
       by (Impossible predicate) stands free = shown_other place (Impossible predicate) counters refl free.0
       by (SameRow entry other) stands free = shown_other place (SameRow entry other) counters refl free.0
       by (NullInNotIn sub) stands free = shown_other place (NullInNotIn sub) counters refl free.0
+
+  -- an answer of a question that is put, and no verdict, is as if it were asked alone
+  pub as_asked : (place : ℕ) (question : Question) (answer : Answer) → IsAnsweredAt schema query number budget answers place question answer → is_put answer ≡ true → is_verdict answer ≡ false →
+      IsAskAnswer schema query question (given place question) (numbers place) budget answer
+  as_asked place question answer at put none = by answer put none (alone place question answer put (next place question answer at)).0
+    where
+      by : (a : Answer) → is_put a ≡ true → is_verdict a ≡ false → IsAlone schema query number budget (is_constant question) (earlier place) (one (1 + place) question a) →
+          IsAskAnswer schema query question (given place question) (numbers place) budget a
+      by (Always cert) put none is = cc
+      by (NotAlways counters) put none is = cc
+      by Moot put none is = cc
+      by (Blocked n) put none is = cc
+      by (CyclicKeys cycle counter key) put none is = own_of place question (CyclicKeys cycle counter key) (λ counters same. cc) is
+      by (CyclicNesting cycle) put none is = own_of place question (CyclicNesting cycle) (λ counters same. cc) is
+      by (Large rows clauses) put none is = own_of place question (Large rows clauses) (λ counters same. cc) is
+      by (Spent tried) put none is = own_of place question (Spent tried) (λ counters same. cc) is
 
   -- ---- one of the two
 

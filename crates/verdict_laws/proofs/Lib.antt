@@ -1,3 +1,5 @@
 pub mod Fronts
 pub mod Refuted
 pub mod Kept
+pub mod Counted
+pub mod Decided

@@ -1,5 +1,5 @@
 -- What the answers to the questions of a query promise, one question at a time.
-use Rattle.std.specs.Prelude.{◌≡◌, ℕ, ◌+◌, Bool, true, false, List, ◌∷◌, Some, take, slice_get, All}
+use Rattle.std.specs.Prelude.{◌≡◌, ℕ, ◌+◌, Bool, true, false, List, Some, take, slice_get, All}
 use Rattle.lint_core.specs.declared.certificate.Cert.{Cert}
 use Rattle.lint_core.specs.declared.database.Counter.{Counter}
 use Rattle.lint_core.specs.declared.database.Value.{Value}
@@ -11,13 +11,12 @@ use Rattle.lint_core.specs.declared.schema.Table.{Table}
 use Rattle.lint_core.specs.Asked.{questions}
 use Rattle.lint_core.specs.Meets.{meets}
 use Rattle.lint_core.specs.Question.{HoldsIn}
-use Rattle.sort_formula.specs.declared.formula.Formula.{Formula}
 use Rattle.sort_formula.specs.Certificate.{accepts}
 use Rattle.sort_formula.specs.Counters.{counter_sentence}
 use Rattle.sorted_skolem.specs.Graph.{IsAcyclic, IsOrder}
 use Rattle.case_split.specs.Answers.{HasSpent}
 use Rattle.answer_laws.specs.AlwaysMeans.{AlwaysMeans}
-use Rattle.lint_engine.specs.Earlier.{Answered, answered, given_for}
+use Rattle.lint_engine.specs.Earlier.{answered, given_for}
 use Rattle.lint_engine.specs.JudgedBy.{sentences_for, clauses_for, frame_for}
 use Rattle.lint_engine.specs.Limits.{AreFew}
 

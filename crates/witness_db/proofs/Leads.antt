@@ -1,15 +1,15 @@
 -- In the database of a full case the rows for which the leading Exists of a sentence ask satisfy its body; and of a needless join they
 -- refute, with the two rows for which the body asks where there are such rows.
-use Rattle.std.proofs.Common.{◌≡◌, ◌∙◌, sym, ap, ap₂, refl, subst, ℕ, suc, ◌+◌, ◌<◌, ◌⊎◌, inl, inr, true, List, [], ◌∷◌, ◌++◌, length, map, take, append_assoc, append-nil, arith}
+use Rattle.std.proofs.Common.{◌≡◌, ◌∙◌, sym, ap, ap₂, refl, subst, ℕ, zero, suc, ◌+◌, ◌<◌, ◌⊎◌, inl, inr, true, List, [], ◌∷◌, ◌++◌, length, map, take, get_or, append_assoc, append-nil, arith}
 use Rattle.std.proofs.lemmas.Bool.{and_from}
 use Rattle.std.proofs.lemmas.Bool.Decides.{nat_tests}
-use Rattle.std.proofs.lemmas.List.{map-append}
+use Rattle.std.proofs.lemmas.List.{length-map, map-append}
 use Rattle.std.proofs.lemmas.List.Folds.{list_all-append}
-use Rattle.std.proofs.lemmas.Option.{same_Some}
+use Rattle.std.proofs.lemmas.Option.{same_Some, slice_get-get_or}
 use Rattle.std.specs.Prelude.{Option, Some, None, slice_get, nat_lt, option_and_then, unwrap_or, sum}
 use Rattle.std.specs.List.{list_all}
 use Rattle.std.specs.Option.{option_map_or}
-use Rattle.lint_base.proofs.Lists.{all_append, both_left, slice_get_last, true_below}
+use Rattle.lint_base.proofs.Lists.{all_append, below_true, both_left, slice_get_last, true_below}
 use Rattle.lint_core.specs.declared.database.Database.{Database}
 use Rattle.lint_core.specs.Database.{Place, below, rows_of}
 use Rattle.lint_core.specs.Points.{are_rows}
@@ -33,6 +33,7 @@ use Rattle.instantiate.specs.Ground.{ways_in}
 use Rattle.instantiate.specs.Hanging.{Hanging, IsMaker, at_way, guards_at}
 use Rattle.instantiate.specs.Plain.{plain_row, StandsPlain, PlainBelow, PlainNodes}
 use Rattle.witness_db.specs.Leading.{leading_places, place_for}
+use Rattle.witness_db.specs.Parts.{PartHolds, part_node, places_from}
 use Rattle.witness_db.proofs.Standing.{taken_by, first_way, one_chosen, chosen_way, legal_way, made_there, maker_taken, taken_holds}
 
 module _ (problem : Problem) (hanging : Hanging problem) (plain : PlainNodes problem) (choices : Choices) (full : IsFullCase problem.clauses problem.frame choices)
@@ -156,6 +157,73 @@ module _ (problem : Problem) (hanging : Hanging problem) (plain : PlainNodes pro
 
     pub body_holds : holds db body (leading_rows lead own_places) ≡ true
     body_holds = subst (λ rows. holds db body rows ≡ true) leading_same (holds_there (0 + length lead) known.clause body around known.stands known.taken)
+
+  -- ---- an Or as the whole sentence
+
+  places_are : (node k count : ℕ) → map place (counted (node + k) count) ≡ map (λ number. place (node + number)) (counted k count)
+  places_are node k zero = refl
+  places_are node k (suc count) =
+      let next : suc (node + k) ≡ node + suc k = omega arith in
+      ap (λ ps. place (node + k) ∷ ps) (ap (λ n. map place (counted n count)) next ∙ places_are node (suc k) count)
+
+  places_from_is : (node count : ℕ) → map place (counted node count) ≡ places_from terms places node count
+  places_from_is node count =
+      let own : node ≡ node + 0 = omega arith in
+      ap (λ n. map place (counted n count)) own ∙ (places_are node 0 count ∙ ap (map (λ number. place (node + number))) (sym (below_is count)))
+
+  module _ (parts : List Formula) (at : slice_get problem.sentences 0 ≡ Some (f.Or parts)) where
+    pub top : (clause : ℕ) × StandsPlain problem 0 0 clause (out-Formula (f.Or parts)) [] × (guards_at problem clause ≡ [])
+    top = plain.root 0 (f.Or parts) at
+
+    pub top_taken : Taken top.0
+    top_taken = taken_by problem hanging choices full a is_assignment satisfied db places is_database top.0 (out-Formula (f.Or parts)) [] top.1.stands (ap (list_all (is_chosen choices)) top.2)
+
+    top_there : StandsPlain problem 0 0 top.0 (Formula-F.Or parts) []
+    top_there = subst (λ y. StandsPlain problem 0 0 top.0 y []) (f.outs-Or parts) top.1
+
+    abbrev pub part : ℕ
+    part = top_taken.0
+
+    part_low : part < length parts
+    part_low =
+        let c = hanging.listed top.0 (Formula-F.Or parts) [] top_there.stands in
+        let legal : nat_lt part (length c.0.ways) ≡ true =
+        legal_way problem hanging choices full a is_assignment satisfied db places is_database top.0 part c.0 c.1 top_taken.1 in
+        below_true part (length parts)
+        (subst (λ n. nat_lt part n ≡ true) (ap length c.2 ∙ length-map parts (λ (g : Formula). None)) legal)
+
+    abbrev formula : Formula
+    formula = get_or parts part (f.Or parts)
+
+    part_there : slice_get parts part ≡ Some formula
+    part_there = slice_get-get_or parts part (f.Or parts) part_low
+
+    part_below : PlainBelow problem 0 top.0 part (part_node parts part) formula []
+    part_below = plain.way 0 0 top.0 parts [] top_there part formula part_there
+
+    part_led : (lead : List ℕ) (body : Formula) → formula ≡ exist_rows lead body → Led lead body (part_node parts part) []
+    part_led lead body is =
+        led lead body (part_node parts part) [] part_below.clause
+        (subst (λ g. StandsPlain problem 0 (part_node parts part) part_below.clause (out-Formula g) []) is part_below.stands)
+        (below_taken top.0 part (part_node parts part) formula [] part_below
+        (chosen_way problem hanging choices full a is_assignment satisfied db places is_database top.0 part top_taken.1))
+
+    pub part_chosen : slice_get choices top.0 ≡ Some (Some part)
+    part_chosen = top_taken.1
+
+    pub part_holds : PartHolds db terms places parts part
+    part_holds = record {
+      formula = formula;
+      stands = part_there;
+      there = λ lead body is.
+          let known = part_led lead body is in
+          subst (λ ps. are_rows db lead ps ≡ true) (places_from_is (part_node parts part) (length lead)) known.rows;
+      inside = λ lead body is.
+          let known = part_led lead body is in
+          subst (λ rows. holds db body rows ≡ true)
+          (known.same ∙ ap (leading_rows lead) (places_from_is (part_node parts part) (length lead)))
+          (holds_there (part_node parts part + length lead) known.clause body (counted (part_node parts part) (length lead)) known.stands known.taken);
+    }
 
   -- ---- a needless join
 

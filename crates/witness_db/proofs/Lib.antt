@@ -9,3 +9,4 @@ pub mod Refuting
 pub mod Walks
 pub mod Pairs
 pub mod Found
+pub mod First

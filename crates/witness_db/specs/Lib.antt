@@ -1,3 +1,4 @@
 pub mod FullCases
 pub mod Leading
+pub mod Parts
 pub mod inner

@@ -6,6 +6,7 @@ ghost use Rattle.lint_core.specs.declared.schema.Table.{Table};
 ghost use Rattle.lint_core.specs.Meets.{is_of_domains, meets};
 ghost use Rattle.lint_core.specs.Schema.{is_schema};
 ghost use Rattle.sort_formula.specs.declared.formula.Formula.{Formula, out-Formula};
+ghost use Rattle.sort_formula.specs.declared.formula.Formula.TheVariants.{Or};
 ghost use Rattle.sort_formula.specs.Axioms.{Axiom as Stated, axioms};
 ghost use Rattle.sort_formula.specs.Holds.{holds};
 ghost use Rattle.ground_theory.specs.declared.literal.Assignment.{Assignment};
@@ -15,8 +16,9 @@ ghost use Rattle.instantiate.specs.declared.problem.Problem.{Problem};
 ghost use Rattle.instantiate.specs.Cases.{IsDatabaseOf, IsProblem, places_at};
 ghost use Rattle.instantiate.specs.Hanging.{StandsAt};
 ghost use Rattle.witness_db.specs.FullCases.{IsFullCaseOf};
+ghost use Rattle.witness_db.specs.Parts.{PartHolds};
 
-use instantiate::clauses_hang_together;
+use instantiate::{clauses_hang_together, plain_nodes_are_numbered};
 use truth_laws::axioms_are_the_constraints;
 
 /// Every sentence of a problem holds in the database of a full case: the database whose rows are
@@ -69,4 +71,20 @@ pub fn full_case_meets_schema()
     full_case_satisfies_sentences();
     databases_are_of_domains();
     axioms_are_the_constraints();
+}
+
+/// Where the first sentence is an Or, a part of it is chosen at clause 0, and it holds in that
+/// database: so does what stands inside the Exists that lead the part, at the rows for which they
+/// ask.
+pub fn chosen_part_holds()
+    ensures { (schema : List Table) (problem : Problem) (choices : Choices)
+        (a : Assignment) → IsFullCaseOf schema problem choices a
+        → (db : Database) (places : List (Option ℕ))
+        → IsDatabaseOf problem choices a db places
+        → (parts : List Formula) → slice_get problem.sentences 0 ≡ Some (Or parts)
+        → (part : ℕ) × (slice_get choices 0 ≡ Some (Some part))
+        × PartHolds db problem.rows.terms places parts part }
+{
+    clauses_hang_together();
+    plain_nodes_are_numbered();
 }

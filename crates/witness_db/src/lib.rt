@@ -12,7 +12,9 @@
 //! (`full_case_satisfies_sentences`), and so does, at the places of its row terms, each formula
 //! whose clause is taken (`taken_clauses_hold`). Its values are of the schema's domains
 //! (`databases_are_of_domains`), so where the schema's axioms are among the sentences it meets the
-//! schema (`full_case_meets_schema`). The layer above may use the two calls, and cite the laws.
+//! schema (`full_case_meets_schema`). Where the first sentence is an Or, one of its parts is chosen,
+//! and it holds at the rows for which its leading Exists ask (`chosen_part_holds`). The layer above
+//! may use the two calls, and cite the laws.
 //!
 //! `insert_text` is that of `insert_lines`.
 //!
@@ -21,10 +23,10 @@
 //! clauses are taken also `Hanging` there (what stands at a clause); `Choices` and `Cases` in
 //! `case_split`; `Assignments` and `Judgeable` in `ground_theory`; `Preorder`, `Graph` and `Terms`
 //! in `sorted_skolem`; `Holds`, `Placed` and `Sentences` in `sort_formula`. For what is said of the
-//! schema also `Meets` and `DatabaseFits` in `lint_core` and `Axioms` in `sort_formula`. Of points
-//! `specs/Leading` with `Plain` in `instantiate` (whose they are), `Counters`, `CounterPoints` and
-//! `Loose` in `sort_formula`, and `Asked` and `Question` in `lint_core`. `specs/inner` is cited by
-//! private clauses alone.
+//! schema also `Meets` and `DatabaseFits` in `lint_core` and `Axioms` in `sort_formula`. Of the
+//! parts of an Or `specs/Parts`. Of points `specs/Leading` with `Plain` in `instantiate` (whose they
+//! are), `Counters`, `CounterPoints` and `Loose` in `sort_formula`, and `Asked` and `Question` in
+//! `lint_core`. `specs/inner` is cited by private clauses alone.
 #![tactic(auto)]
 
 mod building;
@@ -37,7 +39,7 @@ mod rows;
 pub use building::build;
 pub use insert_lines::insert_text;
 pub use laws::{
-    databases_are_of_domains, full_case_meets_schema, full_case_satisfies_sentences,
-    taken_clauses_hold,
+    chosen_part_holds, databases_are_of_domains, full_case_meets_schema,
+    full_case_satisfies_sentences, taken_clauses_hold,
 };
 pub use rows::{Placed, rows_placed};

@@ -1,12 +1,13 @@
-//! What the engine answers of a few queries whose answers are known by hand. The program prints the
-//! verdict of each question; the gate compares that with the page `stdout`, which was written by
-//! hand from what the questions mean.
+//! What the engine answers of a few queries, and of sentences, whose answers are known by hand. The
+//! program prints the verdict of each question, and whether each sentence can hold; the gate
+//! compares that with the page `stdout`, which was written by hand from what these mean.
 //!
 //! It stands beside `sqllint`, over `lint_engine`, and is no part of it. Nothing stands on it,
 //! and nobody has to believe it: what it calls is proved where it stands.
 #![tactic(auto)]
 
 mod reading;
+mod sentences;
 
 ghost use Rattle.std.specs.Prelude.{◌≡◌, true};
 ghost use Rattle.lint_core.specs.Fits.{query_fits};
@@ -15,6 +16,7 @@ use lint_base::NoMemory;
 use lint_core::{Answer, Query, Schema};
 use lint_engine::ask_all;
 use reading::{query, schema};
+use sentences::settled;
 use std::alloc::Global;
 use std::io;
 
@@ -65,6 +67,17 @@ fn shown(alloc: Global, text: &str) -> String {
     }
 }
 
+/// Whether some salary can be at most this number.
+fn salary_at_most(alloc: Global, most: i128) -> String {
+    let Some(schema) = schema(alloc, SCHEMA) else {
+        return String::new(alloc);
+    };
+    match settled(alloc, &schema, 1, 2, most) {
+        Ok(words) => words,
+        Err(_) => String::new(alloc),
+    }
+}
+
 fn main(rt: HostRuntime) -> io::Result<()> {
     for text in [
         "SELECT ename FROM emp WHERE sal < 0",
@@ -75,6 +88,13 @@ fn main(rt: HostRuntime) -> io::Result<()> {
         "SELECT ename FROM emp WHERE sal = (SELECT sal FROM emp x WHERE x.deptno = 7)",
     ] {
         println!(rt; "{}:{}", text, shown(rt.alloc(), text).as_str())?;
+    }
+    for most in [-1, 0, 1] {
+        println!(rt;
+            "some sal at most {}: {}",
+            most,
+            salary_at_most(rt.alloc(), most).as_str()
+        )?;
     }
     Ok(())
 }

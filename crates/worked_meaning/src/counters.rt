@@ -1,8 +1,6 @@
 //! The counter sentences of questions.
-use crate::names::question;
 use crate::notation::shown;
-use crate::values::value;
-use case_pages::said;
+use case_pages::{question, said, value};
 use error_reductions::counter_sentence;
 use lint_base::NoMemory;
 use lint_core::{Query, Schema};

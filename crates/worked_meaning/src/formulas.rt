@@ -2,9 +2,9 @@
 ghost use Rattle.std.specs.Prelude.{◌≡◌, ◌∷◌, [], true, IfOk};
 ghost use Rattle.lint_core.specs.Fits.{query_fits};
 
+use crate::bindings::binding;
 use crate::notation::shown;
 use crate::placing::can_be_placed;
-use crate::values::binding;
 use case_pages::said;
 use constraint_axioms::{Axiom, axioms};
 use lint_base::{Items, NoMemory};

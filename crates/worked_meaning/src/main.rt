@@ -10,14 +10,13 @@
 #![tactic(auto)]
 
 mod answers;
+mod bindings;
 mod counters;
 mod formulas;
 mod meaning;
-mod names;
 mod notation;
 mod placing;
 mod questions;
-mod values;
 
 use answers::Meaning;
 use case_pages::show_page;

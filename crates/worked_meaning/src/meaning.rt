@@ -3,8 +3,8 @@
 ghost use Rattle.std.specs.Prelude.{◌≡◌};
 ghost use Rattle.lint_core.specs.DatabaseFits.{has_few_rows};
 
-use crate::values::{binding, database};
-use case_pages::said;
+use crate::bindings::binding;
+use case_pages::{database, said};
 use lint_base::{Items, NoMemory};
 use lint_core::{Database, Query, Schema, Truth};
 use sql_meaning::{TruthStop, meets};

@@ -1,45 +1,8 @@
-//! How a formula is written: 0.1 is column 1 in the row of variable 0; E2 is some row of table 2, A2
-//! each of its rows.
+//! How a formula is written: E2 is some row of table 2, A2 each of its rows.
+use case_pages::push_atom;
 use lint_base::NoMemory;
-use sort_formula::{Atom, Formula, Side};
+use sort_formula::Formula;
 use std::alloc::{AllocError, Global};
-
-fn push_side(out: &mut String, side: &Side) -> Result<(), AllocError> {
-    match side {
-        Side::Cell { row, column } => write!(out, "{row}.{column}"),
-        Side::Zero => out.push_str("Zero"),
-        Side::Text(text) => write!(out, "'{}'", text.as_str()),
-    }
-}
-
-fn push_sides(out: &mut String, word: &str, left: &Side, right: &Side) -> Result<(), AllocError> {
-    out.push_str(word)?;
-    out.push('(')?;
-    push_side(out, left)?;
-    out.push_str(", ")?;
-    push_side(out, right)
-}
-
-fn push_atom(out: &mut String, atom: &Atom) -> Result<(), AllocError> {
-    match atom {
-        Atom::Le { left, right, most } => {
-            push_sides(out, "Le", left, right)?;
-            write!(out, ", {most})")
-        }
-        Atom::TextEq { left, right } => {
-            push_sides(out, "TextEq", left, right)?;
-            out.push(')')
-        }
-        Atom::TextNe { left, right } => {
-            push_sides(out, "TextNe", left, right)?;
-            out.push(')')
-        }
-        Atom::IsNull { row, column } => write!(out, "IsNull({row}.{column})"),
-        Atom::NotNull { row, column } => write!(out, "NotNull({row}.{column})"),
-        Atom::Same { row, other } => write!(out, "Same({row}, {other})"),
-        Atom::Other { row, other } => write!(out, "Other({row}, {other})"),
-    }
-}
 
 /// Parts with commas between them.
 #[cycle(push_formula)]

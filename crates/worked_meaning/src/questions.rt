@@ -2,10 +2,9 @@
 ghost use Rattle.std.specs.Prelude.{◌≡◌, true};
 ghost use Rattle.lint_core.specs.Fits.{query_fits};
 
+use crate::bindings::points;
 use crate::meaning::{database_copy, shown_stop};
-use crate::names::{named, push_name, question};
-use crate::values::{points, value};
-use case_pages::said;
+use case_pages::{named, push_question, question, said, value};
 use error_reductions::questions;
 use lint_base::NoMemory;
 use lint_core::{Points, Query, Question, Schema};
@@ -32,7 +31,7 @@ fn push_fitting(
         return Ok(());
     };
     if question.fits(schema, query) {
-        push_name(out, &question)?;
+        push_question(out, &question)?;
     }
     Ok(())
 }
@@ -58,7 +57,7 @@ fn listed(alloc: Global, schema: &Schema, query: &Query) -> Result<String, NoMem
 {
     let mut out = String::new(alloc);
     for question in questions(alloc, schema, query)?.as_slice() {
-        push_name(&mut out, question)?;
+        push_question(&mut out, question)?;
     }
     Ok(out)
 }

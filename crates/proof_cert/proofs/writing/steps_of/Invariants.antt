@@ -1,5 +1,5 @@
 use Rattle.std.proofs.Common.{◌≡◌, length, map}
-use Rattle.case_split.specs.inner.Sizes.{size_of_all}
+use Rattle.proof_cert.specs.inner.Sizes.{size_of_all}
 use Rattle.proof_cert.specs.inner.Paths.{IsIndexed}
 use Rattle.proof_cert.specs.inner.Writing.{IsWork, tree_of, waits_of}
 use Rattle.proof_cert.proofs.writing.steps_of.Given as goal

@@ -67,7 +67,7 @@ pub returns-then-next-as_slice-clause-left : goal.returns-then-next-as_slice-cla
 returns-then-next-as_slice-clause-left c =
     let s : State = c.args.self.now in
     let e : Entry = c.args.entry in
-    let f : Entry = record { clause = e.clause; way = e.way + 1; cases = c.push.new.self } in
+    let f : Entry = record { clause = e.clause; way = e.way + 1; cases = c.in_ok-cases.cases } in
     let has = c.requires.state.has in
     let low = (entry_fits c.args.clauses.now c.args.frame.now c.requires.state.counted s.needed.items (entries_of s) e has.entries.0 c.requires.ways).0 in
     let low' : e.clause < length s.needed.items = let size = has.marks in omega arith in
@@ -75,7 +75,7 @@ returns-then-next-as_slice-clause-left c =
     let less : e.way + 1 < length c.as_slice.result.now = c.if-next-as_slice.true in
     let less' : e.way + 1 < length c.index-clauses-clause.result.ways = subst (λ n. e.way + 1 < n) (ap length c.as_slice.ensures ∙ ap (λ (d : Clause). length d.ways) (sym c.index-clauses-clause.is)) less in
     next_way c.args.clauses.now c.args.frame.now s c.take.new.self e f c.args.tree c.index-clauses-clause.result c.requires.state c.requires.refuted
-    (mark_read s.needed.items e.clause c.index.result.now low' c.index.ensures ∙ c.if-not-index.false) at less' refl refl c.in_ok-push.ensures.ok
+    (mark_read s.needed.items e.clause c.index.result.now low' c.index.ensures ∙ c.if-not-index.false) at less' refl refl c.in_ok-cases.ensures
     c.take.ensures.tried c.take.ensures.chosen c.take.ensures.needed c.in_ok-take.ensures.entries
 
 pub offset_bounds-clauses-clause-2 : goal.offset_bounds-clauses-clause-2
@@ -115,5 +115,5 @@ returns-clause-left c =
     let done = wrapped c.args.clauses.now c.args.frame.now s t e below c.index-clauses-clause-2.result c.requires.state c.requires.refuted
     (mark_read s.needed.items e.clause c.index.result.now low' c.index.ensures ∙ c.if-not-index.false) at last
     c.need.ensures.tried c.need.ensures.chosen (c.need.ensures.needed ∙ ap (λ (gs : List Guard). mark_all s.needed.items gs) (c.as_slice-2.ensures ∙ ap (λ (d : Clause). d.guards) (sym c.index-clauses-clause-2.is))) c.need.ensures.entries in
-    let cases : c.push.new.self ≡ e.cases ++ below ∷ [] = c.in_ok-push.ensures.ok in
+    let cases : c.in_ok-cases.cases ≡ e.cases ++ below ∷ [] = c.in_ok-cases.ensures in
     (c.need.ensures.entries, subst (λ (ts : List CaseTree). IsRefuted c.args.clauses.now c.args.frame.now t (tree.Split e.clause ts)) (sym cases) (subst (λ u. IsRefuted c.args.clauses.now c.args.frame.now t u) (split_rolls e.clause (e.cases ++ below ∷ [])) done))
