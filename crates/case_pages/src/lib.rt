@@ -4,9 +4,10 @@
 //! What several of them name in a text is read and written here: questions, values, databases and
 //! atoms.
 //!
-//! The programs on it (`worked_reading`, `worked_meaning` and their like) stand beside `sqllint`, over the same
-//! crates, and are no part of it. They may use every public item. Nobody has to believe this
-//! crate: what it promises is that it is safe and ends. `pages` tells how a line is read.
+//! The programs on it (`worked_reading`, `worked_meaning` and their like) stand beside `sqllint`,
+//! over the same crates, and are no part of it. They may use every public item. Nobody has to
+//! believe this crate: what it promises is that it is safe and ends. `pages` tells how a line is
+//! read.
 #![tactic(auto)]
 
 mod asking;

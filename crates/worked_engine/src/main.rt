@@ -1,5 +1,5 @@
-//! What the engine answers of a few queries, and of sentences, whose answers are known by hand. The
-//! program prints the verdict of each question, and whether each sentence can hold; the gate
+//! What the engine answers of a few queries, and of sentences, whose answers are known by hand.
+//! The program prints the verdict of each question, and whether each sentence can hold; the gate
 //! compares that with the page `stdout`, which was written by hand from what these mean.
 //!
 //! It stands beside `sqllint`, over `lint_engine`, and is no part of it. Nothing stands on it,

@@ -6,8 +6,8 @@
 //!   speaks of this problem;
 //! - `row N`: the table of a row term, and the sentence and the node that ask for it, with the row
 //!   terms at which they do;
-//! - `clause N`, or `clause N M` for all from N to M: the guards of a clause, each with its way, and
-//!   its own ways, where `-` has no literal;
+//! - `clause N`, or `clause N M` for all from N to M: the guards of a clause, each with its way,
+//!   and its own ways, where `-` has no literal;
 //! - `inserts ROWS`: the INSERT statements of the rows, with `\n` for the end of a line.
 use crate::inserts::inserts;
 use crate::problems::{Stop, problem};

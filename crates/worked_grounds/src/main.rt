@@ -1,7 +1,7 @@
-//! Worked cases of grounding, as data: pages of questions with the order of their tables, their row
-//! terms and their ground lists, or the cycle or the count that stands in the way, and of rows with
-//! their INSERT statements, each with what comes by hand. The program prints how many lines of each
-//! page came as they say, and each line that did not.
+//! Worked cases of grounding, as data: pages of questions with the order of their tables, their
+//! row terms and their ground lists, or the cycle or the count that stands in the way, and of rows
+//! with their INSERT statements, each with what comes by hand. The program prints how many lines of
+//! each page came as they say, and each line that did not.
 //!
 //! It stands beside `sqllint`, over the same crates, and is no part of it; nothing stands on it,
 //! and nobody has to believe it. What it calls is proved where it stands; a case shows that the
