@@ -8,9 +8,12 @@
 //!   empty, with `\n` for the end of a line;
 //! - `verdicts QUERY`: the query is put into the file `q` and judged under the schema of the file
 //!   `s`; the status, and of each question its code and verdict, `spent` without its number;
+//! - `thrifty`: the query of the file `q` is judged once more, with a budget of one case: how many of
+//!   its questions have the verdict that they have with the usual budget, were given up after more
+//!   than one case, or have what follows from one that was;
 //! - `recheck`: the certificates of the files `s` and `q` are written, and checked in another run:
 //!   its status, and how many were accepted of how many questions that hold always.
-use crate::reports::{accepted, always, shown, verdicts};
+use crate::reports::{accepted, always, shown, thrifty, verdicts};
 use crate::setting::{Setting, Written};
 use case_pages::{Answering, Page, said};
 use lint_base::NoMemory;
@@ -37,6 +40,12 @@ impl Runs {
         self.setting.put(alloc, "q", query)?;
         let report = self.judged(alloc)?;
         verdicts(alloc, report.status, report.text.as_str())
+    }
+
+    fn thrifty(&mut self, alloc: Global) -> Result<String, NoMemory> {
+        let usual = self.judged(alloc)?;
+        let small = self.setting.run(alloc, "--budget 1 s q")?;
+        thrifty(alloc, usual.text.as_str(), small.text.as_str())
     }
 
     fn recheck(&mut self, alloc: Global) -> Result<String, NoMemory> {
@@ -68,6 +77,7 @@ impl Answering for Runs {
                 return shown(alloc, written.status, written.text.as_str());
             }
             "verdicts" => return self.verdicts(alloc, text),
+            "thrifty" => return self.thrifty(alloc),
             "recheck" => return self.recheck(alloc),
             _ => return said(alloc, "no such word"),
         }

@@ -52,6 +52,37 @@ pub(crate) fn verdicts(alloc: Global, status: u8, report: &str) -> Result<String
     Ok(all)
 }
 
+/// Whether the verdict says that more than one case was tried.
+fn is_spent(verdict: &str) -> bool {
+    match verdict.strip_prefix("spent ") {
+        Some(tried) => tried != "0" && tried != "1",
+        None => false,
+    }
+}
+
+/// Whether the verdict is one that follows from that of another question.
+fn follows(verdict: &str) -> bool {
+    verdict == "moot" || verdict.starts_with("blocked ") || verdict.starts_with("cyclic ")
+}
+
+/// How many questions of a query, and how many of them have in a run with a small budget the
+/// verdict of a run with much, were given up there, or have what follows where one before them
+/// was given up.
+pub(crate) fn thrifty(alloc: Global, usual: &str, small: &str) -> Result<String, NoMemory> {
+    let (mut right, mut all): (u32, u32) = (0, 0);
+    let mut any_spent = false;
+    let answers = usual.lines().filter_map(question);
+    for ((code, verdict), (same, other)) in answers.zip(small.lines().filter_map(question)) {
+        let given_up = is_spent(other);
+        all = all.saturating_add(1);
+        if code == same && (verdict == other || given_up || any_spent && follows(other)) {
+            right = right.saturating_add(1);
+        }
+        any_spent = any_spent || given_up;
+    }
+    Ok(format!(in alloc; "{right} of {all}")?)
+}
+
 /// How many questions of a report hold always.
 pub(crate) fn always(report: &str) -> u32 {
     let mut count: u32 = 0;
