@@ -1,15 +1,16 @@
 #!/usr/bin/env bash
-# How much memory the proved program takes, and how long: on files of 1 MiB of queries, the most that is read, which it
-# judges, and on files of certificates of 16 MiB, the most that is read, which it checks. Outside the gate: it prints what
-# this machine does, and promises nothing. Run it at the top: bench/memory.sh [WORD..]; with words only the lines that have
-# one of them.
+# How much memory the proved program takes, and how long: on files of queries, of at most 1 MiB, the most that is
+# read, which it judges, and on files of certificates of 16 MiB, the most that is read, which it checks. Outside the
+# gate: it prints what this machine does, and promises nothing. Run it at the top: bench/memory.sh [WORD..]; with words
+# only the lines that have one of them. Times are of the processor.
 #
-# The queries: the two hundred of bench/judging, again and again; queries of nearly 4,096 tokens, each with two thousand
-# questions. The certificates: those of the two hundred queries, again and again; and three that stand alone in their file,
-# of hundreds of thousands of steps, written here: an Or in an Or opened before any branch is closed; ORs in ORs of which
-# each branch is closed before the next; and one that takes one And apart again and again, which shows nothing and is
-# refused at its end. Each step of the last adds as many facts as the And has parts, so there the memory goes by what the
-# steps make and not by the file; it is run within 2 GiB.
+# The queries: the two hundred of bench/judging, again and again; queries of 32 conjuncts, each with 66 questions; and
+# one query alone of nearly 4,096 tokens, with two thousand questions. The certificates: those of the two hundred
+# queries, again and again; and three that stand alone in their file, of hundreds of thousands of steps, written here:
+# an Or in an Or opened before any branch is closed; ORs in ORs of which each branch is closed before the next; and one
+# that takes one And apart again and again, which shows nothing and would be refused at its end. Each step of the last
+# adds as many facts as the And has parts, so there the memory goes by what the steps make and not by the file; it is
+# run within 2 GiB.
 set -eu
 . "$(dirname "$0")/program.sh"
 work=$(mktemp -d)
@@ -51,10 +52,17 @@ def ordinary():
 
 WIDE = "CREATE TABLE t (id INTEGER PRIMARY KEY, " + ", ".join(f"c{k} INTEGER" for k in range(32)) + ");\n"
 
-def long_queries():
-    query = "SELECT id FROM t WHERE " + " AND ".join(f"c{k % 32} <> {k}" for k in range(1022)) + ";\n"
+def conjuncts(name, count, queries):
+    """Queries of so many conjuncts over one table, in a file of at most 1 MiB."""
+    query = "SELECT id FROM t WHERE " + " AND ".join(f"c{k % 32} <> {k}" for k in range(count)) + ";\n"
     schema = write("wide.sql", WIDE, (), "", MOST_TEXT)
-    return [schema, write("long.sql", "", itertools.repeat(query), "", MOST_TEXT)], None
+    return [schema, write(name, "", itertools.repeat(query, queries), "", MOST_TEXT)], None
+
+def many():
+    return conjuncts("many.sql", 32, MOST_TEXT)
+
+def long_query():
+    return conjuncts("long.sql", 1022, 1)
 
 # ---- certificates
 
@@ -128,7 +136,8 @@ def one_and():
 
 FILES = {
     "1 MiB of the two hundred queries": ordinary,
-    "1 MiB of queries of 4,096 tokens": long_queries,
+    "1 MiB of queries of 32 conjuncts": many,
+    "a query of nearly 4,096 tokens": long_query,
     "16 MiB of the certificates of the two hundred queries": again,
     "16 MiB of one certificate, an Or in an Or, all open": deep,
     "16 MiB of one certificate, ORs in ORs, each closed": closed,
