@@ -54,7 +54,7 @@ WIDE = "CREATE TABLE t (id INTEGER PRIMARY KEY, " + ", ".join(f"c{k} INTEGER" fo
 
 def conjuncts(name, count, queries):
     """Queries of so many conjuncts over one table, in a file of at most 1 MiB."""
-    query = "SELECT id FROM t WHERE " + " AND ".join(f"c{k % 32} <> {k}" for k in range(count)) + ";\n"
+    query = "SELECT id FROM t WHERE " + " AND ".join(f"c{k % 32} > {k}" for k in range(count)) + ";\n"
     schema = write("wide.sql", WIDE, (), "", MOST_TEXT)
     return [schema, write(name, "", itertools.repeat(query, queries), "", MOST_TEXT)], None
 
