@@ -40,7 +40,7 @@ def shown(name, words, memory=None):
     done = run([PROGRAM] + words, limit=LIMIT, memory=memory)
     last = (done.text.strip().split("\n") or [""])[-1][:60]
     end = f"status {done.status}" if done.status >= 0 else f"ended by signal {-done.status}"
-    print(f"{name}: {done.seconds:.1f} s, {done.mebibytes:.0f} MiB, {end}; last line read of it: {last!r}", flush=True)
+    print(f"{name}: {done.seconds:.1f} s, {done.mebibytes:.0f} MiB, {end}; last line of its first MiB: {last!r}", flush=True)
 
 # ---- queries
 

@@ -22,11 +22,12 @@ SOLVERS = {
     "Z3": (["z3", "-in"], ["z3"]),
     "cvc5": [["cvc5", "--lang", "smt2", "-q", "--incremental"]] * 2,
 }
-HEAD = re.compile(r"^; question (\d+) (\d+) (\S+)$")
+HEAD = re.compile(r"^; question (\d+) (\d+)\b")
+JUDGED = ("always", "not-always", "spent")
 
 
-def scripts_of(path):
-    """The scripts of the file: query, question, verdict, text."""
+def scripts_of(path, verdicts):
+    """The scripts of the questions that are judged: query, question, verdict, text."""
     found, lines, head = [], [], None
     with open(path, encoding="utf-8") as file:
         for line in file:
@@ -34,7 +35,10 @@ def scripts_of(path):
             if match:
                 head, lines = match, []
             elif line == "; end\n":
-                found.append((int(head[1]), int(head[2]), head[3], "".join(lines)))
+                question = int(head[1]), int(head[2])
+                word = word_of(verdicts[question][1])
+                if word in JUDGED:
+                    found.append((*question, word, "".join(lines)))
             else:
                 lines.append(line)
     return found
@@ -161,9 +165,9 @@ def compare(name, scripts, folder):
 
 def main():
     program, schema, queries, path = sys.argv[1:5]
-    scripts = scripts_of(path)
     report = run([program, schema, queries], most_text=1 << 30).text
     verdicts = verdicts_of(report)
+    scripts = scripts_of(path, verdicts)
     counts = {}
     for _, verdict in verdicts.values():
         word = word_of(verdict)
@@ -172,8 +176,9 @@ def main():
     print(f"{asked} queries, {len(verdicts)} questions:", ", ".join(f"{n} {w}" for w, n in sorted(counts.items())))
     size = sum(len(script[3]) for script in scripts) / 1e6
     print(f"{len(scripts)} of them are judged over a ground list ({size:.1f} MB as SMT-LIB)")
-    other = [it[:3] for it in scripts if word_of(verdicts[it[0], it[1]][1]) != it[2]]
-    print(f"scripts whose verdict is not the report's: {len(other)}", *other)
+    judged = sum(word_of(verdict) in JUDGED for _, verdict in verdicts.values())
+    if judged != len(scripts):
+        print(f"of {judged - len(scripts)} questions that are judged there is no script")
     whole = least_of([program, schema, queries], times=5)
     if len(sys.argv) > 5:
         show("sqllint", read_times(sys.argv[5]), whole)
