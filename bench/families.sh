@@ -2,24 +2,19 @@
 # How the time of judging grows with a query, family by family: at each size the processor time of one run (the least of
 # three where it is short), the questions with their verdicts, and the least budget within which every question of the query
 # is judged, found by trying budgets; a budget counts cases, so that number is the same on every machine. Outside the gate:
-# it prints what this machine does, and promises nothing. Run it at the top: bench/families.sh [FAMILY..]
+# it prints what this machine does, and promises nothing. A family ends at the first size at which a run takes more than 120
+# seconds, or those that SECONDS_EACH says. Run it at the top: bench/families.sh [FAMILY..]
 set -eu
 . "$(dirname "$0")/program.sh"
 work=$(mktemp -d)
 trap 'rm -rf "$work"' EXIT
-python3 - "$program" "$work" "$@" <<'PYTHON'
-import re, resource, subprocess, sys
+PYTHONPATH=$top/bench python3 -B - "$program" "$work" "$@" <<'PYTHON'
+import os, re, sys
+import running
 
 PROGRAM, WORK, *CHOSEN = sys.argv[1:]
-LIMIT = 120     # seconds of the processor for one run
+LIMIT = int(os.environ.get("SECONDS_EACH", 120))  # of the processor, for one run
 MOST = 1_000_000
-
-def own_limit():
-    resource.setrlimit(resource.RLIMIT_CPU, (LIMIT, LIMIT))
-
-def spent_so_far():
-    used = resource.getrusage(resource.RUSAGE_CHILDREN)
-    return used.ru_utime + used.ru_stime
 
 def run(schema, query, budget=None):
     """The report and the processor time; None where it takes more than the limit."""
@@ -27,10 +22,9 @@ def run(schema, query, budget=None):
         with open(f"{WORK}/{name}", "w") as file:
             file.write(text)
     words = [PROGRAM] + (["--budget", str(budget)] if budget else [])
-    start = spent_so_far()
     words += [f"{WORK}/schema.sql", f"{WORK}/query.sql"]
-    done = subprocess.run(words, capture_output=True, text=True, preexec_fn=own_limit)
-    return (None if done.returncode < 0 else done.stdout), spent_so_far() - start
+    done = running.run(words, limit=LIMIT, most_text=1 << 30)
+    return (None if done.status < 0 else done.text), done.seconds
 
 def verdicts(report):
     counts = {}
@@ -92,8 +86,8 @@ def exists(n):
 def keys(n):
     return one_table(n, " NOT NULL UNIQUE"), "SELECT a.id FROM t a, t b WHERE a.c0 = b.c0 AND a.id > 5;\n"
 
-def long_query(n):
-    return one_table(32), "SELECT id FROM t WHERE " + " AND ".join(f"c{k % 32} <> {k}" for k in range(n)) + ";\n"
+def different(n):
+    return one_table(n), "SELECT id FROM t WHERE " + " AND ".join(f"c{k} <> 5" for k in range(n)) + ";\n"
 
 def long_or(n):
     return one_table(32), "SELECT id FROM t WHERE " + " OR ".join(f"c{k % 32} = {k}" for k in range(n)) + ";\n"
@@ -104,14 +98,19 @@ def same_in(n):
 def other_in(n):
     return one_table(n), "SELECT id FROM t WHERE " + " AND ".join(f"c{k} IN (1, 2, 3)" for k in range(n)) + ";\n"
 
+def ors(n):
+    return one_table(2 * n), "SELECT id FROM t WHERE " + " AND ".join(f"(c{k} = 5 OR c{k + n} <> 6)" for k in range(n)) + ";\n"
+
 FAMILIES = {
     "conjuncts on one table": (conjuncts, (1, 2, 4, 8, 16, 32, 64, 128, 256)),
+    "a query of up to 4,096 tokens, an AND of so many": (conjuncts, (512, 1022)),
     "joins along foreign keys, tables": (joins, (2, 4, 6, 8, 10, 12, 14, 16)),
     "EXISTS in EXISTS, depth": (exists, (1, 2, 3, 4, 6, 8, 12, 16, 24, 31)),
     "keys of a table that is joined to itself": (keys, (1, 2, 4, 8, 16, 32, 62)),
     "AND of c IN (1, 2, 3), one column": (same_in, (2, 3, 4, 5, 6, 7, 8)),
     "AND of c IN (1, 2, 3), a column each": (other_in, (2, 3, 4, 5, 6, 7, 8)),
-    "a query of up to 4,096 tokens, an AND of so many": (long_query, (128, 256, 512, 1022)),
+    "AND of c <> 5, a column each": (different, (2, 4, 6, 8, 10, 12, 14, 16)),
+    "AND of (c = 5 OR d <> 6), two columns each": (ors, (2, 3, 4, 5, 6, 7, 8)),
     "a query of up to 4,096 tokens, an OR of so many": (long_or, (128, 256, 512, 1022)),
 }
 

@@ -1,18 +1,15 @@
 #!/usr/bin/env bash
 # How long the proved program takes to read and bind query files of 512 KiB and 1 MiB of ordinary queries and to list
-# their questions, and how much memory it takes. Nothing is judged: each run checks a file of no certificates. Outside the
-# gate: it prints what this machine does, and promises nothing. Run it at the top: bench/reading.sh
+# their questions, and how much memory it takes. Nothing is judged: each run checks a file of no certificates. Times are of
+# the processor, the least of five. Outside the gate: it prints what this machine does, and promises nothing. Run it at the
+# top: bench/reading.sh
 set -eu
-top=$(cd "$(dirname "$0")/.." && pwd)
+. "$(dirname "$0")/program.sh"
 work=$(mktemp -d)
 trap 'rm -rf "$work"' EXIT
 schema=$top/examples/shop/schema.sql
 certs=$work/none.json
 printf '{"certs":[],"sqllint":1}\n' > "$certs"
-
-# built first, where that is still to be done
-"$top/sqllint" --check "$certs" "$schema" /dev/null > /dev/null || true
-program=$(echo "$top"/out/sqllint/*/sqllint)
 
 # ordinary queries, again and again, to at most so many bytes
 queries() {
@@ -31,26 +28,25 @@ queries() {
     }'
 }
 
-# the least of five runs, in milliseconds
-least() {
-    for _ in 1 2 3 4 5; do
-        local from to
-        from=$(date +%s%N)
-        "$program" --check "$certs" "$schema" "$1" > /dev/null || true
-        to=$(date +%s%N)
-        echo $(((to - from) / 1000000))
-    done | sort -n | head -n 1
-}
-
 queries 524288 > "$work/half.sql"
 queries 1048576 > "$work/whole.sql"
-half=$(least "$work/half.sql")
-whole=$(least "$work/whole.sql")
-echo "$(wc -c < "$work/half.sql") bytes: $half milliseconds"
-echo "$(wc -c < "$work/whole.sql") bytes, $(wc -l < "$work/whole.sql") queries: $whole milliseconds"
-awk -v h="$half" -v w="$whole" 'BEGIN { printf "twice the text takes %.2f times as long\n", w / h }'
-python3 - "$program" --check "$certs" "$schema" "$work/whole.sql" <<'PYTHON'
-import resource, subprocess, sys
-subprocess.run(sys.argv[1:], stdout=subprocess.DEVNULL)
-print(f"memory at most: {resource.getrusage(resource.RUSAGE_CHILDREN).ru_maxrss // 1024} MiB")
+PYTHONPATH=$top/bench python3 -B - "$work" "$program" --check "$certs" "$schema" <<'PYTHON'
+import os, sys
+from running import run
+
+work, *words = sys.argv[1:]
+
+def shown(name):
+    """The least processor time of five runs."""
+    path = f"{work}/{name}"
+    runs = [run(words + [path]) for _ in range(5)]
+    least, memory = min(it.seconds for it in runs), max(it.mebibytes for it in runs)
+    with open(path, encoding="utf-8") as file:
+        count = sum(1 for _ in file)
+    print(f"{os.path.getsize(path)} bytes, {count} queries: {least * 1e3:.0f} milliseconds, {memory:.0f} MiB, status {runs[0].status}")
+    return least
+
+half = shown("half.sql")
+whole = shown("whole.sql")
+print(f"twice the text takes {whole / half:.2f} times as long")
 PYTHON

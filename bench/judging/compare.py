@@ -3,13 +3,9 @@
 
 Words: the proved program, the schema's file, the queries' file, the file of SMT-LIB scripts (made by
 bench/smt/scripts.sh) and, if there is one, the file of times by question (made by bench/smt/times.sh).
-It prints what this machine does, and promises nothing.
-
-A question is timed, of sqllint, from its counter sentence to its certificate or database, making the ground
-list included; of a solver, from sending its script through a pipe to the answer, reading the script included,
-all scripts one behind the other in one process with a reset between. The total is the wall time of one process
-on everything: of sqllint on the schema and the queries, with the report it prints; of a solver on one file of
-all scripts.
+bench/judging.sh makes them, and says what is compared with what. Every time of a solver and of a whole
+run is that of the processor, so that other work on the machine counts little; a question's time of
+sqllint is by the clock, the least of several. It prints what this machine does, and promises nothing.
 """
 import os
 import re
@@ -18,18 +14,20 @@ import shutil
 import statistics
 import subprocess
 import sys
-import time
 
-LIMIT = 60
+from running import run
+
+LIMIT = 60  # seconds for one script
 SOLVERS = {
-    "Z3": (["z3", "-in"], ["z3", "FILE"]),
-    "cvc5": (["cvc5", "--lang", "smt2", "-q", "--incremental"], ["cvc5", "--lang", "smt2", "-q", "--incremental", "FILE"]),
+    "Z3": (["z3", "-in"], ["z3"]),
+    "cvc5": [["cvc5", "--lang", "smt2", "-q", "--incremental"]] * 2,
 }
-HEAD = re.compile(r"^; question (\d+) (\d+) (\S+)$")
+HEAD = re.compile(r"^; question (\d+) (\d+)\b")
+JUDGED = ("always", "not-always", "spent")
 
 
-def scripts_of(path):
-    """The scripts of the file: query, question, verdict, text."""
+def scripts_of(path, verdicts):
+    """The scripts of the questions that are judged: query, question, verdict, text."""
     found, lines, head = [], [], None
     with open(path, encoding="utf-8") as file:
         for line in file:
@@ -37,21 +35,13 @@ def scripts_of(path):
             if match:
                 head, lines = match, []
             elif line == "; end\n":
-                found.append((int(head[1]), int(head[2]), head[3], "".join(lines)))
+                question = int(head[1]), int(head[2])
+                word = word_of(verdicts[question][1])
+                if word in JUDGED:
+                    found.append((*question, word, "".join(lines)))
             else:
                 lines.append(line)
     return found
-
-
-def report_of(program, schema, queries):
-    """What the program prints, and the least wall time of five runs."""
-    least = None
-    for _ in range(5):
-        start = time.perf_counter()
-        done = subprocess.run([program, schema, queries], capture_output=True)
-        took = time.perf_counter() - start
-        least = took if least is None else min(least, took)
-    return done.stdout.decode("utf-8"), least
 
 
 def verdicts_of(report):
@@ -74,6 +64,8 @@ def word_of(verdict):
 
 
 class Solver:
+    """A solver at the other end of a pipe."""
+
     def __init__(self, words):
         self.words = words
         self.start()
@@ -83,11 +75,19 @@ class Solver:
         self.process = subprocess.Popen(self.words, stdin=pipe, stdout=pipe, stderr=subprocess.STDOUT)
         self.selector = selectors.DefaultSelector()
         self.selector.register(self.process.stdout, selectors.EVENT_READ)
-        self.ask("(set-logic QF_UFLIA)\n(check-sat)\n")
+        self.answer("(set-logic QF_UFLIA)\n(check-sat)\n")
 
-    def ask(self, script):
-        """The answer of a script, and the time from its sending."""
-        start = time.perf_counter()
+    def spent(self):
+        """The processor time of the process so far, in seconds."""
+        tasks = f"/proc/{self.process.pid}/task"
+        nanos = 0
+        for task in os.listdir(tasks):
+            with open(f"{tasks}/{task}/schedstat", encoding="ascii") as file:
+                nanos += int(file.read().split()[0])
+        return nanos / 1e9
+
+    def answer(self, script):
+        """The first line that a script prints."""
         self.process.stdin.write((script + '(echo "done")\n(reset)\n').encode())
         self.process.stdin.flush()
         said = b""
@@ -95,72 +95,98 @@ class Solver:
             if not self.selector.select(LIMIT):
                 self.process.kill()
                 self.start()
-                return f"nothing in {LIMIT} s", time.perf_counter() - start
+                return f"nothing in {LIMIT} s"
             part = os.read(self.process.stdout.fileno(), 65536)
             if not part:
                 self.start()
-                return "ended", time.perf_counter() - start
+                return "ended"
             said += part
-        return said.decode().split("\n")[0], time.perf_counter() - start
+        return said.decode().split("\n")[0]
+
+    def ask(self, script):
+        """The answer of a script, and the least processor time of five."""
+        least, answer = LIMIT, None
+        for _ in range(5):
+            before = self.spent()
+            answer = self.answer(script)
+            least = min(least, max(self.spent() - before, 0))
+        return answer, least
+
+
+def least_of(words, times=3):
+    """The least processor time of several runs."""
+    return min(run(words, most_text=0).seconds for _ in range(times))
 
 
 def whole_time(words, scripts, folder):
-    """The wall time of one process on all scripts."""
+    """The processor time of one process on all scripts."""
     path = os.path.join(folder, "all.smt2")
     with open(path, "w", encoding="utf-8") as file:
         for script in scripts:
             file.write(script[3] + "(reset)\n")
-    start = time.perf_counter()
-    subprocess.run([path if it == "FILE" else it for it in words], stdout=subprocess.DEVNULL)
-    return time.perf_counter() - start
+    return least_of(words + [path])
 
 
-def show(name, times, whole, note):
+def show(name, times, whole):
     worst = max(times, key=times.get)
     middle = statistics.median(times.values())
     print(
-        f"{name}: median {middle * 1e3:.2f} ms, sum {sum(times.values()):.2f} s, worst {times[worst] * 1e3:.1f} ms"
-        f" (query {worst[0]} question {worst[1]}); one process on everything {whole:.2f} s{note}"
+        f"{name}: median {middle * 1e3:.2f} ms, total {sum(times.values()):.2f} s, worst {times[worst] * 1e3:.1f} ms"
+        f" (query {worst[0]} question {worst[1]}); one process on everything {whole:.2f} s",
+        flush=True,
     )
+
+
+def read_times(path):
+    times = {}
+    with open(path, encoding="utf-8") as file:
+        for line in file:
+            query, number, nanos = map(int, line.split())
+            times[query, number] = nanos / 1e9
+    return times
+
+
+def compare(name, scripts, folder):
+    one, all_of = SOLVERS[name]
+    if shutil.which(one[0]) is None:
+        print(f"{name}: not on this machine (apt-get install z3 cvc5)")
+        return
+    solver = Solver(one)
+    times, differ = {}, []
+    for query, number, verdict, script in scripts:
+        answer, times[query, number] = solver.ask(script)
+        wanted = {"always": "unsat", "not-always": "sat"}.get(verdict)
+        if wanted is not None and answer != wanted:
+            differ.append((query, number, verdict, answer))
+    solver.process.kill()
+    show(name, times, whole_time(all_of, scripts, folder))
+    print(f"{name}: answers that disagree with sqllint: {len(differ)} of {len(scripts)}", *differ[:20])
 
 
 def main():
     program, schema, queries, path = sys.argv[1:5]
-    scripts = scripts_of(path)
-    report, whole = report_of(program, schema, queries)
+    report = run([program, schema, queries], most_text=1 << 30).text
     verdicts = verdicts_of(report)
+    scripts = scripts_of(path, verdicts)
     counts = {}
     for _, verdict in verdicts.values():
         word = word_of(verdict)
         counts[word] = counts.get(word, 0) + 1
-    print(f"{report.count('query ')} queries, {len(verdicts)} questions:", ", ".join(f"{n} {w}" for w, n in sorted(counts.items())))
-    print(f"{len(scripts)} of them are judged over a ground list ({sum(len(s[3]) for s in scripts) / 1e6:.1f} MB as SMT-LIB)")
-    other = [s[:3] for s in scripts if word_of(verdicts[s[0], s[1]][1]) != s[2]]
-    print(f"scripts whose verdict is not the report's: {len(other)}", *other)
-    times = {}
+    asked = len({query for query, _ in verdicts})
+    print(f"{asked} queries, {len(verdicts)} questions:", ", ".join(f"{n} {w}" for w, n in sorted(counts.items())))
+    size = sum(len(script[3]) for script in scripts) / 1e6
+    print(f"{len(scripts)} of them are judged over a ground list ({size:.1f} MB as SMT-LIB)")
+    judged = sum(word_of(verdict) in JUDGED for _, verdict in verdicts.values())
+    if judged != len(scripts):
+        print(f"of {judged - len(scripts)} questions that are judged there is no script")
+    whole = least_of([program, schema, queries], times=5)
     if len(sys.argv) > 5:
-        with open(sys.argv[5], encoding="utf-8") as file:
-            for line in file:
-                query, number, nanos = map(int, line.split())
-                times[query, number] = nanos / 1e9
-        show("sqllint", times, whole, ", the report included")
+        show("sqllint", read_times(sys.argv[5]), whole)
     else:
-        print(f"sqllint: one process on everything {whole:.2f} s, the report included; {whole / len(scripts) * 1e3:.2f} ms a question")
-    for name, (one, all_of) in SOLVERS.items():
-        if shutil.which(one[0]) is None:
-            print(f"{name}: not on this machine (apt-get install z3 cvc5)")
-            continue
-        solver = Solver(one)
-        times, differ = {}, []
-        for query, number, verdict, script in scripts:
-            answer, took = solver.ask(script)
-            times[query, number] = took
-            wanted = {"always": "unsat", "not-always": "sat"}.get(verdict)
-            if wanted is not None and answer != wanted:
-                differ.append((query, number, verdict, answer))
-        solver.process.kill()
-        show(name, times, whole_time(all_of, scripts, os.path.dirname(path)), "")
-        print(f"{name}: answers that disagree with sqllint: {len(differ)}", *differ[:20])
+        each = whole / len(scripts) * 1e3
+        print(f"sqllint: one process on everything {whole:.2f} s, that is {each:.2f} ms a question that is judged")
+    for name in SOLVERS:
+        compare(name, scripts, os.path.dirname(path))
 
 
 main()
