@@ -7,13 +7,13 @@
 # What is compared with what:
 #
 # - A question, of a solver: the processor time from its script's first byte to its answer, so with the reading of the
-#   script. One process takes all scripts through a pipe, with a reset between. The least of five.
+#   script. One process takes all scripts through a pipe, with a reset between. The least of three.
 # - A question, of sqllint: the time by the clock, inside one process, from the bound query to the answer, so with the
 #   counter sentence, the axioms, the ground list, and behind the search the certificate or the database, which a solver
 #   does not make. A run of the program can't be seen into, so a small program takes these times with the same calls
 #   (bench/smt/times.sh), proved and built like sqllint. The least of five. It needs the libraries in crates/*/out, as the
 #   gate leaves them; where they are not there, these times are left out.
-# - Everything, of a solver: the processor time of one process that reads one file of all scripts. The least of three.
+# - Everything, of a solver: the processor time of one process that reads one file of all scripts.
 # - Everything, of sqllint: that of one run of the program as the gate built it, on the schema and the queries: with the
 #   reading of both, the questions that are moot or blocked, and the report. The least of five.
 #

@@ -104,9 +104,9 @@ class Solver:
         return said.decode().split("\n")[0]
 
     def ask(self, script):
-        """The answer of a script, and the least processor time of five."""
+        """The answer of a script, and the least processor time of three."""
         least, answer = LIMIT, None
-        for _ in range(5):
+        for _ in range(3):
             before = self.spent()
             answer = self.answer(script)
             least = min(least, max(self.spent() - before, 0))
@@ -124,7 +124,7 @@ def whole_time(words, scripts, folder):
     with open(path, "w", encoding="utf-8") as file:
         for script in scripts:
             file.write(script[3] + "(reset)\n")
-    return least_of(words + [path])
+    return least_of(words + [path], times=1)
 
 
 def show(name, times, whole):
